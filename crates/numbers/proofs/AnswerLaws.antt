@@ -1,0 +1,79 @@
+-- Laws of answers: which way a test goes, and what an acceptance says. Assumes nothing.
+use mathlib.Core.Path.{_≡_, refl, sym, ap, _∙_}
+use mathlib.Core.Bool.{Bool, true, false, not, false≢true}
+use Prim.Native.Nat.{ℕ}
+use mathlib.Core.List.{List, [], _∷_}
+use mathlib.Core.Logic.{_↔_}
+use native.Mathlib.Omega.{arith}
+use Rattle.numbers.specs.Refusals.{Refusal}
+use Rattle.numbers.specs.Answers.{Answer, accepted, refused, Verdict, pass, _>>=_, _>>_, refuse_when_else_, each, All}
+
+module _ {A : Type 0} where
+  pub when-hit : (r : Refusal) (b : Bool) (a : Answer A) → b ≡ true → (refuse r when b else a) ≡ refused r
+  unfolding refuse_when_else_
+  when-hit r b a e = rw e
+
+  pub when-pass : (r : Refusal) (b : Bool) (a : Answer A) → b ≡ false → (refuse r when b else a) ≡ a
+  unfolding refuse_when_else_
+  when-pass r b a e = rw e
+
+  pub not-refused {ℓ} : {X : Type ℓ} (r : Refusal) (x : A) → _≡_ {A = Answer A} (refused r) (accepted x) → X
+  not-refused r x e = let z : _≡_ {A = ℕ} 0 1 = cc in absurd (omega arith)
+
+  pub accepted-inj : (x y : A) → accepted x ≡ accepted y → x ≡ y
+  accepted-inj x y e = cc
+
+  pub when-accepted : (r : Refusal) (b : Bool) (a : Answer A) (x : A) → (refuse r when b else a) ≡ accepted x → (b ≡ false) × (a ≡ accepted x)
+  unfolding refuse_when_else_
+  when-accepted r true a x e = not-refused r x e
+  when-accepted r false a x e = (refl, e)
+
+module _ {A B : Type 0} where
+  pub bind-accepted : (m : Answer A) (f : A → Answer B) (y : B) → (m >>= f) ≡ accepted y → (x : A) × (m ≡ accepted x) × (f x ≡ accepted y)
+  unfolding _>>=_
+  bind-accepted (accepted x) f y e = (x, refl, e)
+  bind-accepted (refused r) f y e = not-refused r y e
+
+  pub bind-pass : (m : Answer A) (f : A → Answer B) (x : A) → m ≡ accepted x → (m >>= f) ≡ f x
+  unfolding _>>=_
+  bind-pass m f x e = rw e
+
+module _ {B : Type 0} where
+  pub then-accepted : (v : Verdict) (a : Answer B) (y : B) → (v >> a) ≡ accepted y → (v ≡ pass) × (a ≡ accepted y)
+  unfolding _>>_
+  then-accepted (accepted x) a y e = (refl, e)
+  then-accepted (refused r) a y e = not-refused r y e
+
+  pub then-pass : (v : Verdict) (a : Answer B) → v ≡ pass → (v >> a) ≡ a
+  unfolding _>>_
+  then-pass v a e = rw e
+
+-- the tests of a list pass exactly when each passes
+module _ {A : Type 0} (f : A → Verdict) (P : A → Type 0) (fits : (x : A) → (f x ≡ pass) ↔ P x) where
+  pub each-pass : (xs : List A) → (each f xs ≡ pass) ↔ All P xs
+  unfolding each
+  each-pass [] = ((λ e. tt), (λ h. refl))
+  each-pass (x ∷ xs) = (
+    (λ e. let w = then-accepted (f x) (each f xs) tt e in (fits x .0 (w .0), each-pass xs .0 (w .1))),
+    (λ h. then-pass (f x) (each f xs) (fits x .1 (h .0)) ∙ each-pass xs .1 (h .1)),
+  )
+
+-- a test, and what comes after it
+module _ {A : Type 0} where
+  pub test-accepted : (r : Refusal) (b : Bool) (a : Answer A) (x : A) → ((refuse r when not b else a) ≡ accepted x) ↔ ((b ≡ true) × (a ≡ accepted x))
+  unfolding refuse_when_else_
+  test-accepted r true a x = ((λ e. (refl, e)), (λ h. h .1))
+  test-accepted r false a x = ((λ e. not-refused r x e), (λ h. absurd (false≢true (h .0))))
+
+-- a test that ends the chain
+pub refuse-pass : (r : Refusal) (b : Bool) → ((refuse r when not b else pass) ≡ pass) ↔ (b ≡ true)
+refuse-pass r b = ((λ e. test-accepted r b pass tt .0 e .0), (λ e. test-accepted r b pass tt .1 (e, refl)))
+
+-- two facts of each element, together and apart
+module _ {A : Type 0} (P Q R : A → Type 0) (both : (x : A) → P x ↔ (Q x × R x)) where
+  pub all-both : (xs : List A) → All P xs ↔ (All Q xs × All R xs)
+  all-both [] = ((λ h. (tt, tt)), (λ h. tt))
+  all-both (x ∷ xs) = (
+    (λ h. let a = both x .0 (h .0) in let b = all-both xs .0 (h .1) in ((a .0, b .0), (a .1, b .1))),
+    (λ h. (both x .1 (h .0 .0, h .1 .0), all-both xs .1 (h .0 .1, h .1 .1))),
+  )

@@ -1,0 +1,45 @@
+-- What a reading answers: what it read, or the first refusal; and the words in which readings are written. Assumes nothing: these are definitions.
+use mathlib.Core.Bool.{Bool, true, false}
+use mathlib.Core.List.{List, [], _∷_}
+use Rattle.numbers.specs.Refusals.{Refusal}
+
+pub data Answer (A : Type 0) : Type 0 where
+  accepted : A → Answer A
+  refused : Refusal → Answer A
+
+-- a test, that passes or refuses
+abbrev pub Verdict : Type 0
+Verdict = Answer (Unit {0})
+
+abbrev pub pass : Verdict
+pass = accepted tt
+
+infixr 1 _>>=_ _>>_ refuse_when_else_
+-- the first part that refuses ends the whole reading
+unfoldable pub _>>=_ : {A B : Type 0} → Answer A → (A → Answer B) → Answer B
+_>>=_ (accepted a) f = f a
+_>>=_ (refused r) f = refused r
+
+-- the same where only the verdict of the first part counts
+unfoldable pub _>>_ : {B : Type 0} → Verdict → Answer B → Answer B
+_>>_ (accepted a) b = b
+_>>_ (refused r) b = refused r
+
+unfoldable pub refuse_when_else_ : {A : Type 0} → Refusal → Bool → Answer A → Answer A
+refuse_when_else_ r true a = refused r
+refuse_when_else_ r false a = a
+
+-- the refusal of the first element that is refused
+unfoldable pub each : {A : Type 0} → (A → Verdict) → List A → Verdict
+each f [] = pass
+each f (x ∷ xs) = f x >> each f xs
+
+-- what was accepted, in another form
+unfoldable pub given : {A B : Type 0} → (A → B) → Answer A → Answer B
+given f (accepted a) = accepted (f a)
+given f (refused r) = refused r
+
+-- each element has the property
+abbrev pub All : {A : Type 0} → (A → Type 0) → List A → Type 0
+All P [] = Unit {0}
+All P (x ∷ xs) = P x × All P xs
