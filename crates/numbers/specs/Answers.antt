@@ -43,3 +43,7 @@ given f (refused r) = refused r
 abbrev pub All : {A : Type 0} → (A → Type 0) → List A → Type 0
 All P [] = Unit {0}
 All P (x ∷ xs) = P x × All P xs
+
+-- only whether it was accepted, or why not
+abbrev pub verdict : {A : Type 0} → Answer A → Verdict
+verdict = given (λ a. tt)

@@ -1,0 +1,48 @@
+-- Demand 3 and what belongs to it, as statements; proofs/Demand3.antt proves them. Assumes nothing: these are definitions.
+use Prim.Native.Nat.{ℕ, _≤_}
+use mathlib.Core.Path.{_≡_}
+use mathlib.Core.Logic.{_↔_}
+use mathlib.Core.List.{List, map}
+use lib.ListN.{length, take, drop}
+use Rattle.numbers.specs.Answers.{Answer, accepted, given, All}
+use Rattle.sd_format.specs.Settings.{Settings}
+use Rattle.sd_format.specs.Sequences.{HandsOut, behind, counted}
+use Rattle.sd_format.specs.Strings.{read-string}
+use Rattle.sd_format.specs.Frames.{size, slots, table-after, look-up, next-option, next-of-run, along}
+use Rattle.sd_format.specs.Entries.{sixteen, next-entry}
+use Rattle.sd_format.specs.Layout.{GoodItem, layItems, Payload, lay, Fits, wire}
+use Rattle.sd_format.specs.Payload.{entries-part, options-part, read-payload, frames-of, handed-out}
+
+-- `p` fits the conditions, and its layout is `s`
+abbrev pub LaidOut : Settings → List ℕ → Payload → Type 0
+LaidOut g s p = Fits g p × (lay p ≡ s)
+
+-- the lent table `tab` after the payload `s` was read
+abbrev pub table-left : Settings → List ℕ → List ℕ → List ℕ
+table-left g s tab = table-after tab (frames-of (read-payload g s))
+
+pub record Demand3 (g : Settings) (s : List ℕ) : Type 0 where
+  -- a payload is accepted exactly when some list of entries and list of options, laid out by the rules, gives those very bytes
+  pub exactly : ((p : Payload) × (handed-out g s ≡ accepted p)) ↔ ((p : Payload) × LaidOut g s p)
+  -- no second such pair exists
+  pub only-one : (p q : Payload) → LaidOut g s p → LaidOut g s q → p ≡ q
+  -- what is handed out is that pair
+  pub handed : (p : Payload) → (handed-out g s ≡ accepted p) ↔ LaidOut g s p
+  -- looking up any number in the table gives what counting from the front gives
+  pub looked-up : (p : Payload) → handed-out g s ≡ accepted p → (tab : List ℕ) → slots ≤ length tab → (k : ℕ)
+      → look-up (options-part s) (table-left g s tab) (length (p .options)) k ≡ given wire (counted (p .options) k)
+
+-- the cursors, over a payload that was accepted
+pub record CursorsAgree (g : Settings) (s : List ℕ) (p : Payload) : Type 0 where
+  -- the entries and the options that the cursors hand out from the front, one after the other until 20, are that pair
+  pub entries : HandsOut (next-entry (entries-part s)) (behind sixteen) 0 (p .entries)
+  pub options : HandsOut (next-option (options-part s)) (behind size) 0 (map wire (p .options))
+  -- the run cursor hands out the counted options of its run, as far as the list goes
+  pub runs : (tab : List ℕ) → slots ≤ length tab → (start count : ℕ)
+      → HandsOut (next-of-run (options-part s) (table-left g s tab) (length (p .options))) along (record { next = start; left = count })
+      (take count (drop start (map wire (p .options))))
+
+-- a configuration string is accepted exactly when some list of items with good keys, laid out and closed, gives those bytes
+pub record StringsExact (s : List ℕ) : Type 0 where
+  pub handed : (items : List (List ℕ)) → (read-string s ≡ accepted items) ↔ (All GoodItem items × (layItems items ≡ s))
+  pub only-one : (items others : List (List ℕ)) → All GoodItem items × (layItems items ≡ s) → All GoodItem others × (layItems others ≡ s) → items ≡ others

@@ -1,0 +1,91 @@
+-- The fields of an option, by their places among the bytes after its type; and the option that these bytes are, by its kind's own fields.
+-- Assumes nothing: these are definitions.
+use Prim.Native.Nat.{ℕ, _+_, _%_}
+use mathlib.Core.Bool.{Bool}
+use mathlib.Core.List.{List, []}
+use lib.ListN.{take, drop, getD}
+use Rattle.numbers.specs.Refusals.{nothing-there}
+use Rattle.numbers.specs.Answers.{Answer, accepted, refused, _>>=_}
+use Rattle.numbers.specs.Bytes.{at16}
+use Rattle.sd_format.specs.Options.{Family, ipv4, ipv6, Role, First, Opt, configuring, balancing, addressed, unrecognised, has}
+use Rattle.sd_format.specs.Strings.{read-string}
+use Rattle.sd_format.specs.Kinds.{Kind, configuration, load-balancing, address, unknown, kind-of, unscanned}
+use Rattle.sd_format.specs.Frames.{Frame, one-option}
+
+-- ---- where the fields stand
+
+abbrev pub discardable : List ℕ → Bool
+discardable body = has (getD body 0 0) 0x80
+
+abbrev pub first : List ℕ → First
+first body = record { discardable = discardable body; others = getD body 0 0 % 128 }
+
+-- all bytes after the first
+abbrev pub string : List ℕ → List ℕ
+string body = drop 1 body
+
+abbrev pub priority : List ℕ → ℕ
+priority body = at16 body 1
+
+abbrev pub weight : List ℕ → ℕ
+weight body = at16 body 3
+
+-- how many bytes an address has
+abbrev pub width : Family → ℕ
+width ipv4 = 4
+width ipv6 = 16
+
+-- the address, a reserved byte, the transport protocol, the port
+abbrev pub address-bytes : Family → List ℕ → List ℕ
+address-bytes family body = take (width family) (drop 1 body)
+
+abbrev pub reserved : Family → List ℕ → ℕ
+reserved family body = getD body (1 + width family) 0
+
+abbrev pub protocol : Family → List ℕ → ℕ
+protocol family body = getD body (2 + width family) 0
+
+abbrev pub port : Family → List ℕ → ℕ
+port family body = at16 body (3 + width family)
+
+-- ---- the option by its kind's own fields
+
+-- the items of a string that was accepted
+unfoldable pub items-of : Answer (List (List ℕ)) → List (List ℕ)
+items-of (accepted items) = items
+items-of (refused r) = []
+
+unfoldable pub fields-of : Kind → ℕ → List ℕ → Opt
+fields-of configuration type body = configuring (first body) (items-of (read-string (string body)))
+fields-of load-balancing type body = balancing (first body) (priority body) (weight body)
+fields-of (address family role) type body =
+    addressed family role (first body) (address-bytes family body) (reserved family body) (protocol family body) (port family body)
+fields-of unknown type body = unrecognised type (first body) (string body)
+
+unfoldable pub fields : Frame → Opt
+fields f = fields-of (kind-of (f .type)) (f .type) (f .body)
+
+-- ---- one field asked of the option in front of some bytes: a refusal of its reading, or 20 where its kind has no such field
+-- (The string is not scanned.)
+
+unfoldable pub asked : {A : Type 0} → (Kind → List ℕ → Answer A) → List ℕ → Answer A
+asked field s = one-option unscanned s >>= λ f. field (kind-of (f .type)) (f .body)
+
+-- a field that only options with an address have
+unfoldable pub of-address : {A : Type 0} → (Family → List ℕ → A) → Kind → List ℕ → Answer A
+of-address field (address family role) body = accepted (field family body)
+of-address field configuration body = refused nothing-there
+of-address field load-balancing body = refused nothing-there
+of-address field unknown body = refused nothing-there
+
+unfoldable pub of-load-balancing : {A : Type 0} → (List ℕ → A) → Kind → List ℕ → Answer A
+of-load-balancing field load-balancing body = accepted (field body)
+of-load-balancing field configuration body = refused nothing-there
+of-load-balancing field (address family role) body = refused nothing-there
+of-load-balancing field unknown body = refused nothing-there
+
+unfoldable pub of-configuration : {A : Type 0} → (List ℕ → A) → Kind → List ℕ → Answer A
+of-configuration field configuration body = accepted (field body)
+of-configuration field load-balancing body = refused nothing-there
+of-configuration field (address family role) body = refused nothing-there
+of-configuration field unknown body = refused nothing-there

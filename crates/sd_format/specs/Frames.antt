@@ -1,0 +1,120 @@
+-- The options part: each option as its type and the bytes after it; all of them with the first refusal; the offset table; lookup and the
+-- cursors. Assumes nothing: these are definitions.
+use Prim.Native.Nat.{ℕ, _+_, _-_}
+use mathlib.Core.Path.{_≡_}
+use mathlib.Core.Bool.{Bool, true, false, not, _||_, cond}
+use mathlib.Core.List.{List, [], _∷_, _++_}
+use lib.ListN.{length, take, drop, getD, replicate}
+use lib.Dec.{ltb, leb, eqb}
+use Rattle.numbers.specs.Refusals.{option-length, option-length-zero, unknown-option, index-too-large, nothing-there, table-misfit, few-slots}
+use Rattle.numbers.specs.Answers.{Answer, accepted, refused, Verdict, pass, _>>=_, _>>_, refuse_when_else_, each}
+use Rattle.numbers.specs.Bytes.{at16}
+use Rattle.sd_format.specs.Settings.{Settings}
+use Rattle.sd_format.specs.Sequences.{all, next-at, starts}
+use Rattle.sd_format.specs.Options.{has}
+use Rattle.sd_format.specs.Kinds.{Kind, configuration, load-balancing, address, unknown, kind-of, judge-kind, scanned, unscanned}
+
+-- an option as it stands in the part: its type, and the bytes after the type, the first of which carries the discardable bit
+pub record Frame : Type 0 where
+  pub type : ℕ
+  pub body : List ℕ
+
+-- the bytes that it takes: the length, the type and the body
+abbrev pub size : Frame → ℕ
+size f = 3 + length (f .body)
+
+-- ---- one option
+
+-- fewer than 3 bytes is 7, then 8, then 7 for its whole length
+unfoldable pub frame : List ℕ → Answer Frame
+frame s =
+    refuse option-length 3 (length s) 0 when ltb (length s) 3 else
+    refuse option-length-zero when eqb (at16 s 0) 0 else
+    refuse option-length (3 + at16 s 0) (length s) 0 when ltb (length s) (3 + at16 s 0) else
+    accepted (record { type = getD s 2 0; body = take (at16 s 0) (drop 3 s) })
+
+-- one option in front of `s`: its frame, then its kind
+unfoldable pub one-option : (List ℕ → Verdict) → List ℕ → Answer Frame
+one-option text s = frame s >>= λ f. judge-kind text (f .type) (f .body) >> accepted f
+
+abbrev pub read-option : List ℕ → Answer Frame
+read-option = one-option scanned
+
+-- ---- all options
+
+-- an unknown option needs the discardable bit, unless the discard setting is on
+unfoldable pub permitted : Settings → Kind → List ℕ → Bool
+permitted g unknown body = g .discard || has (getD body 0 0) 0x80
+permitted g configuration body = true
+permitted g load-balancing body = true
+permitted g (address family role) body = true
+
+unfoldable pub permit : Settings → Frame → Verdict
+permit g f = refuse unknown-option (f .type) when not (permitted g (kind-of (f .type)) (f .body)) else pass
+
+unfoldable pub all-options : List ℕ → Answer (List Frame)
+all-options s = all read-option size s
+
+-- after all options decode, 10 for the first bad unknown
+unfoldable pub read-options : Settings → List ℕ → Answer (List Frame)
+read-options g s = all-options s >>= λ fs. each (permit g) fs >> accepted fs
+
+-- ---- the lent table
+
+unfoldable pub slots : ℕ
+slots = 347
+
+-- as many zeros
+unfoldable pub zeros : ℕ → List ℕ
+zeros n = replicate n 0
+
+-- 22 comes before all else
+unfoldable pub lent : {A : Type 0} → List ℕ → Answer A → Answer A
+lent tab a = refuse few-slots (length tab) when ltb (length tab) slots else a
+
+-- what the 347 slots hold after a call that read these options: their offsets and zeros behind them, or zeros alone after a refusal
+unfoldable pub filled : Answer (List Frame) → List ℕ
+filled (accepted fs) = starts size 0 fs ++ zeros (slots - length fs)
+filled (refused r) = zeros slots
+
+-- the whole lent table after such a call: nothing has changed after 22, and slots past 347 are never touched
+unfoldable pub table-after : List ℕ → Answer (List Frame) → List ℕ
+table-after tab a = cond (ltb (length tab) slots) tab (filled a ++ drop slots tab)
+
+-- the index alone: 13, then the options (22 comes before, and 10 never)
+unfoldable pub read-index : List ℕ → Answer (List Frame)
+read-index s =
+    refuse index-too-large (length s) when ltb 1388 (length s) else
+    all-options s
+
+-- ---- lookup and the cursors
+
+-- any refusal becomes 21
+unfoldable pub misfit : Answer Frame → Answer Frame
+misfit (accepted f) = accepted f
+misfit (refused r) = refused table-misfit
+
+-- the option of number `k` among `count`, by a table
+unfoldable pub look-up : (s tab : List ℕ) (count k : ℕ) → Answer Frame
+look-up s tab count k =
+    refuse nothing-there when leb count k else
+    refuse table-misfit when leb slots k else
+    refuse table-misfit when leb (length tab) k else
+    misfit (one-option unscanned (drop (getD tab k 0) s))
+
+-- the option cursor, at a byte offset
+abbrev pub next-option : List ℕ → ℕ → Answer Frame
+next-option = next-at read-option
+
+-- the run cursor: the number of the next option, and how many are left
+pub record Run : Type 0 where
+  pub next : ℕ
+  pub left : ℕ
+
+unfoldable pub next-of-run : (s tab : List ℕ) (count : ℕ) → Run → Answer Frame
+next-of-run s tab count r =
+    refuse nothing-there when eqb (r .left) 0 else
+    look-up s tab count (r .next)
+
+abbrev pub along : Frame → Run → Run
+along f r = record { next = r .next + 1; left = r .left - 1 }

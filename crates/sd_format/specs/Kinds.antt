@@ -1,0 +1,78 @@
+-- The kinds of options: the table of the eight known kinds and their lengths, and what a kind asks of the bytes after the type.
+-- Assumes nothing: these are definitions.
+use Prim.Native.Nat.{ℕ}
+use mathlib.Core.Bool.{Bool, true, not, cond}
+use mathlib.Core.List.{List, [], _∷_}
+use lib.ListN.{length, drop}
+use lib.Dec.{eqb}
+use Rattle.numbers.specs.Refusals.{option-length}
+use Rattle.numbers.specs.Answers.{Verdict, pass, _>>_, refuse_when_else_, verdict}
+use Rattle.sd_format.specs.Options.{Family, ipv4, ipv6, Role, endpoint, multicast, sd-endpoint}
+use Rattle.sd_format.specs.Strings.{read-string}
+
+pub data Kind : Type 0 where
+  configuration : Kind
+  load-balancing : Kind
+  address : Family → Role → Kind
+  unknown : Kind
+
+pub data Length : Type 0 where
+  exactly : ℕ → Length
+  one-or-more : Length
+
+-- a row of document 01's table
+pub record Row : Type 0 where
+  pub code : ℕ
+  pub kind : Kind
+  pub len : Length
+
+abbrev pub row : ℕ → Kind → Length → Row
+row code kind len = record { code = code; kind = kind; len = len }
+
+unfoldable pub kinds : List Row
+kinds =
+    row 0x01 configuration one-or-more
+    ∷ row 0x02 load-balancing (exactly 5)
+    ∷ row 0x04 (address ipv4 endpoint) (exactly 9)
+    ∷ row 0x14 (address ipv4 multicast) (exactly 9)
+    ∷ row 0x24 (address ipv4 sd-endpoint) (exactly 9)
+    ∷ row 0x06 (address ipv6 endpoint) (exactly 21)
+    ∷ row 0x16 (address ipv6 multicast) (exactly 21)
+    ∷ row 0x26 (address ipv6 sd-endpoint) (exactly 21)
+    ∷ []
+
+-- the first row with this type; an unknown type needs length 1 or more
+unfoldable pub row-in : List Row → ℕ → Row
+row-in [] type = row type unknown one-or-more
+row-in (r ∷ rows) type = cond (eqb type (r .code)) r (row-in rows type)
+
+-- the type byte decides the kind
+unfoldable pub row-of : ℕ → Row
+row-of type = row-in kinds type
+
+abbrev pub kind-of : ℕ → Kind
+kind-of type = row-of type .kind
+
+-- ---- what a kind asks of the bytes after the type
+
+-- another length for a fixed kind is 7 with source 1; that the length is not zero was judged before
+unfoldable pub judge-length : Length → List ℕ → Verdict
+judge-length (exactly n) body = refuse option-length n (length body) 1 when not (eqb (length body) n) else pass
+judge-length one-or-more body = pass
+
+-- a configuration option's string is judged by `text`: all bytes after the first
+unfoldable pub judge-text : (List ℕ → Verdict) → Kind → List ℕ → Verdict
+judge-text text configuration body = text (drop 1 body)
+judge-text text load-balancing body = pass
+judge-text text (address family role) body = pass
+judge-text text unknown body = pass
+
+unfoldable pub judge-kind : (List ℕ → Verdict) → ℕ → List ℕ → Verdict
+judge-kind text type body = judge-length (row-of type .len) body >> judge-text text (kind-of type) body
+
+-- what the reading says of a string, and what lookup says, which scans none
+abbrev pub scanned : List ℕ → Verdict
+scanned s = verdict (read-string s)
+
+abbrev pub unscanned : List ℕ → Verdict
+unscanned s = pass

@@ -1,0 +1,174 @@
+-- How entries, options and a whole payload are laid out, written from the layout itself and not from the reading: each kind with its own type
+-- code and length. Numbers need no bounds here: one that is too large gives an element that is no byte. Assumes nothing: these are definitions.
+use Prim.Native.Nat.{ℕ, _+_, _*_, _<_, _≤_}
+use mathlib.Core.Path.{_≡_}
+use mathlib.Core.Bool.{Bool, true, cond}
+use mathlib.Core.Logic.{_⊎_}
+use mathlib.Core.List.{List, [], _∷_, _++_}
+use lib.ListN.{length, drop, getD}
+use Rattle.numbers.specs.Bytes.{be16, be24, be32}
+use Rattle.numbers.specs.Answers.{All}
+use Rattle.sd_format.specs.Settings.{Settings}
+use Rattle.sd_format.specs.Options.{Family, ipv4, ipv6, Role, endpoint, multicast, sd-endpoint, First, Opt, configuring, balancing, addressed, unrecognised}
+use Rattle.sd_format.specs.Frames.{Frame}
+use Rattle.sd_format.specs.Entries.{Head, Group, Entry, find, offer, subscribe, subscribe-ack, head-of}
+
+-- a bit of value `v` in a byte
+abbrev pub bit : ℕ → Bool → ℕ
+bit v b = cond b v 0
+
+-- the elements' layouts, one after the other
+unfoldable pub layAll : {A : Type 0} → (A → List ℕ) → List A → List ℕ
+layAll lay [] = []
+layAll lay (x ∷ xs) = lay x ++ layAll lay xs
+
+-- ---- configuration strings
+
+-- of each item its length and its bytes, and a zero at the end
+unfoldable pub layItems : List (List ℕ) → List ℕ
+layItems [] = 0 ∷ []
+layItems (item ∷ items) = length item ∷ (item ++ layItems items)
+
+-- key bytes lie in 0x20 to 0x7e, and `=` is none of them; the key is neither empty nor all spaces
+pub record GoodKey (key : List ℕ) : Type 0 where
+  pub not-empty : key ≡ [] → ⊥
+  pub printable : All (λ b. (0x20 ≤ b) × (b ≤ 0x7e) × (b ≡ 0x3d → ⊥)) key
+  pub not-all-spaces : All (λ b. b ≡ 0x20) key → ⊥
+
+-- an item is a key alone, or a key, `=` and any value
+pub record GoodItem (item : List ℕ) : Type 0 where
+  pub key : List ℕ
+  pub good-key : GoodKey key
+  pub shape : (item ≡ key) ⊎ ((value : List ℕ) × (item ≡ key ++ (0x3d ∷ value)))
+
+-- ---- options
+
+-- the byte after the type
+abbrev pub layFirst : First → ℕ
+layFirst b = bit 0x80 (b .discardable) + b .others
+
+abbrev pub layType : Family → Role → ℕ
+layType ipv4 endpoint = 0x04
+layType ipv4 multicast = 0x14
+layType ipv4 sd-endpoint = 0x24
+layType ipv6 endpoint = 0x06
+layType ipv6 multicast = 0x16
+layType ipv6 sd-endpoint = 0x26
+
+abbrev pub layLength : Family → ℕ
+layLength ipv4 = 9
+layLength ipv6 = 21
+
+abbrev pub addressLength : Family → ℕ
+addressLength ipv4 = 4
+addressLength ipv6 = 16
+
+unfoldable pub layOption : Opt → List ℕ
+layOption (configuring b items) = be16 (1 + length (layItems items)) ++ (0x01 ∷ layFirst b ∷ layItems items)
+layOption (balancing b priority weight) = be16 5 ++ (0x02 ∷ layFirst b ∷ (be16 priority ++ be16 weight))
+layOption (addressed family role b address reserved protocol port) =
+    be16 (layLength family) ++ (layType family role ∷ layFirst b ∷ (address ++ (reserved ∷ protocol ∷ be16 port)))
+layOption (unrecognised type b rest) = be16 (1 + length rest) ++ (type ∷ layFirst b ∷ rest)
+
+-- an option as lookup hands it out: its type, and the bytes after it
+abbrev pub wire : Opt → Frame
+wire o = record { type = getD (layOption o) 2 0; body = drop 3 (layOption o) }
+
+-- the eight known types
+pub record Unknown (type : ℕ) : Type 0 where
+  pub not-configuration : type ≡ 0x01 → ⊥
+  pub not-load-balancing : type ≡ 0x02 → ⊥
+  pub not-address : (family : Family) (role : Role) → type ≡ layType family role → ⊥
+
+-- the first byte's other seven bits
+abbrev pub SevenBits : First → Type 0
+SevenBits b = b .others < 128
+
+-- what is asked of an option: good items, an address of its family's length, an unknown type that may be discarded unless the setting is on
+abbrev pub OptionFits : Settings → Opt → Type 0
+OptionFits g (configuring b items) = SevenBits b × All GoodItem items
+OptionFits g (balancing b priority weight) = SevenBits b
+OptionFits g (addressed family role b address reserved protocol port) = SevenBits b × (length address ≡ addressLength family)
+OptionFits g (unrecognised type b rest) = SevenBits b × Unknown type × ((b .discardable ≡ true) ⊎ (g .discard ≡ true))
+
+-- ---- entries
+
+unfoldable pub layHead : Head → List ℕ
+layHead h =
+    h .start1 ∷ h .start2 ∷ (h .count1 * 16 + h .count2) ∷
+    (be16 (h .service) ++ (be16 (h .instance) ++ (h .major ∷ be24 (h .ttl))))
+
+unfoldable pub layGroup : Group → List ℕ
+layGroup e = e .reserved ∷ (bit 0x80 (e .initial-data) + e .spare * 16 + e .counter) ∷ be16 (e .eventgroup)
+
+unfoldable pub layEntry : Entry → List ℕ
+layEntry (find h minor) = 0x00 ∷ (layHead h ++ be32 minor)
+layEntry (offer h minor) = 0x01 ∷ (layHead h ++ be32 minor)
+layEntry (subscribe h g) = 0x06 ∷ (layHead h ++ layGroup g)
+layEntry (subscribe-ack h g) = 0x07 ∷ (layHead h ++ layGroup g)
+
+-- a run of no option may start anywhere; any other lies inside the list of `n` options
+abbrev pub RunFits : (n start count : ℕ) → Type 0
+RunFits n start count = (count ≡ 0) ⊎ (start + count ≤ n)
+
+pub record HeadFits (n : ℕ) (h : Head) : Type 0 where
+  pub run1 : RunFits n (h .start1) (h .count1)
+  pub run2 : RunFits n (h .start2) (h .count2)
+  pub four-bits : h .count2 < 16
+
+abbrev pub GroupFits : Group → Type 0
+GroupFits e = (e .spare < 8) × (e .counter < 16)
+
+abbrev pub TailFits : Entry → Type 0
+TailFits (find h minor) = Unit {0}
+TailFits (offer h minor) = Unit {0}
+TailFits (subscribe h g) = GroupFits g
+TailFits (subscribe-ack h g) = GroupFits g
+
+abbrev pub EntryFits : ℕ → Entry → Type 0
+EntryFits n e = HeadFits n (head-of e) × TailFits e
+
+-- ---- the payload
+
+pub record Flags : Type 0 where
+  pub reboot : Bool
+  pub unicast : Bool
+  pub initial-data-control : Bool
+
+-- `spare` is the other five bits of byte 0, `reserved` bytes 1 to 3
+pub record Payload : Type 0 where
+  pub flags : Flags
+  pub spare : ℕ
+  pub reserved : ℕ
+  pub entries : List Entry
+  pub options : List Opt
+
+unfoldable pub layOpening : Flags → ℕ → ℕ → List ℕ
+layOpening f spare reserved =
+    (bit 0x80 (f .reboot) + bit 0x40 (f .unicast) + bit 0x20 (f .initial-data-control) + spare) ∷ be24 reserved
+
+-- a part with its length in front
+unfoldable pub sized : List ℕ → List ℕ
+sized s = be32 (length s) ++ s
+
+abbrev pub layEntries : List Entry → List ℕ
+layEntries = layAll layEntry
+
+abbrev pub layOptions : List Opt → List ℕ
+layOptions = layAll layOption
+
+-- a payload behind any opening bytes
+unfoldable pub layParts : List ℕ → List Entry → List Opt → List ℕ
+layParts opening entries options = opening ++ (sized (layEntries entries) ++ sized (layOptions options))
+
+abbrev pub lay : Payload → List ℕ
+lay p = layParts (layOpening (p .flags) (p .spare) (p .reserved)) (p .entries) (p .options)
+
+-- the conditions of demand 3
+pub record Fits (g : Settings) (p : Payload) : Type 0 where
+  pub five-bits : p .spare < 32
+  pub entries-short : length (layEntries (p .entries)) ≤ 1388
+  pub options-short : length (layOptions (p .options)) ≤ 1388
+  pub all-short : length (lay p) ≤ 1400
+  pub entries-fit : All (EntryFits (length (p .options))) (p .entries)
+  pub options-fit : All (OptionFits g) (p .options)

@@ -1,0 +1,11 @@
+pub mod Settings
+pub mod Sequences
+pub mod Strings
+pub mod Options
+pub mod Kinds
+pub mod Frames
+pub mod Fields
+pub mod Entries
+pub mod Layout
+pub mod Payload
+pub mod Demand3

@@ -1,0 +1,6 @@
+-- The settings of a reading. Assumes nothing: these are definitions.
+use mathlib.Core.Bool.{Bool}
+
+pub record Settings : Type 0 where
+  -- an unknown option is accepted although it may not be discarded
+  pub discard : Bool
