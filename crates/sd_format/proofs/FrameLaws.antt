@@ -28,10 +28,12 @@ frame-step : (a b k n : ℕ) (rest : List ℕ) → a * 256 + b ≡ n → 1 ≤ n
     → frame (a ∷ b ∷ k ∷ rest) ≡ accepted (record { type = k; body = take n rest })
 unfolding frame at16 refuse_when_else_
 frame-step a b k n rest e pos h =
-    rw (le-ltb (suc (suc (suc (length rest)))) 3 (omega arith),
-        e,
-        ne-eqb n 0 (λ z. omega arith),
-        le-ltb (suc (suc (suc (length rest)))) (3 + n) (omega arith))
+    rw (
+      le-ltb (suc (suc (suc (length rest)))) 3 (omega arith),
+      e,
+      ne-eqb n 0 (λ z. omega arith),
+      le-ltb (suc (suc (suc (length rest)))) (3 + n) (omega arith),
+    )
 
 -- an option with a body is read from its layout, whatever follows
 frame-lay : (f : Frame) (rest : List ℕ) → 1 ≤ length (f .body) → frame (layFrame f ++ rest) ≡ accepted f

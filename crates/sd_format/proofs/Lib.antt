@@ -1,3 +1,5 @@
 pub mod BitLaws
 pub mod SequenceLaws
 pub mod FrameLaws
+pub mod KindLaws
+pub mod FieldLaws
