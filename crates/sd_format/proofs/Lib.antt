@@ -3,3 +3,4 @@ pub mod SequenceLaws
 pub mod FrameLaws
 pub mod KindLaws
 pub mod FieldLaws
+pub mod EntryLaws
