@@ -11,6 +11,16 @@ use Rattle.numbers.specs.Bytes.{Bytes, be16, be24, be32, at16, at24, at3
 pub bytes-drop : (s : List ℕ) (n : ℕ) → Bytes s → Bytes (drop n s)
 bytes-drop s n b i = rw getD-drop (b (n + i))
 
+-- the parts of bytes are bytes
+pub bytes-left : (a b : List ℕ) → Bytes (a ++ b) → Bytes a
+bytes-left [] b h i = omega arith
+bytes-left (x ∷ a) b h zero = h 0
+bytes-left (x ∷ a) b h (suc i) = bytes-left a b (λ k. h (suc k)) i
+
+pub bytes-right : (a b : List ℕ) → Bytes (a ++ b) → Bytes b
+bytes-right [] b h = h
+bytes-right (x ∷ a) b h = bytes-right a b (λ k. h (suc k))
+
 -- a number that stands at `i`, as bytes
 pub be16-at : (s : List ℕ) (i : ℕ) → Bytes s → be16 (at16 s i) ≡ getD s i 0 ∷ getD s (i + 1) 0 ∷ []
 unfolding be16 at16

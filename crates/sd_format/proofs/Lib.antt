@@ -4,3 +4,4 @@ pub mod FrameLaws
 pub mod KindLaws
 pub mod FieldLaws
 pub mod EntryLaws
+pub mod OptionLaws

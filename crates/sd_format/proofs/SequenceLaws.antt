@@ -5,6 +5,7 @@ use mathlib.Core.Logic.{_↔_}
 use mathlib.Core.List.{List, [], _∷_, _++_, map}
 use Prim.Native.Nat.{ℕ, zero, suc, _+_, _*_, _-_, _≤_, _<_, zero-le, suc-le-suc}
 use native.Mathlib.Nat.{le-of-suc-le-suc, mul-suc, mul-zero}
+use native.Mathlib.Numerals.{add-one}
 use native.Mathlib.Omega.{arith}
 use lib.ListN.{length, take, drop, getD, length-append, length-drop}
 use lib.Seq.{drop-at, drop-drop}
@@ -139,6 +140,12 @@ unfolding counted
 counted-in [] k h = absurd (omega arith)
 counted-in (x ∷ xs) zero h = (x, refl)
 counted-in (x ∷ xs) (suc k) h = counted-in xs k (le-of-suc-le-suc h)
+
+pub counted-drop : {A : Type 0} (xs : List A) (k : ℕ) (x : A) → counted xs k ≡ accepted x → drop k xs ≡ x ∷ drop (k + 1) xs
+unfolding counted
+counted-drop [] k x e = not-refused _ x e
+counted-drop (y ∷ xs) zero x e = rw (accepted-inj y x e)
+counted-drop (y ∷ xs) (suc k) x e = rw add-one (rw add-one at (counted-drop xs k x e))
 
 pub counted-map : {A B : Type 0} (f : A → B) (xs : List A) (k : ℕ) → counted (map f xs) k ≡ given f (counted xs k)
 unfolding counted given
