@@ -6,3 +6,4 @@ pub mod KindLaws
 pub mod FieldLaws
 pub mod OptionLaws
 pub mod EntryLaws
+pub mod PayloadLaws

@@ -20,7 +20,6 @@ use Rattle.sd_format.specs.Kinds.{Kind, configuration, load-balancing, a
 use Rattle.sd_format.specs.Frames.{Frame, size, one-option, read-option, permitted, permit, all-options, read-options, slots, zeros, filled, table-after, misfit, look-up, Run, next-of-run, along}
 use Rattle.sd_format.specs.Fields.{fields}
 use Rattle.sd_format.specs.Layout.{layAll, layOption, layOptions, wire, OptionFits}
-use Rattle.sd_format.specs.Demand3.{StringsExact}
 use Rattle.sd_format.proofs.SequenceLaws.{all-exact, lay-all, all-count, counted-past, counted-in, counted-drop, length-starts, read-start}
 use Rattle.sd_format.proofs.FrameLaws.{layFrame, length-frame, Sound, option-lay, option-says, option-within}
 use Rattle.sd_format.proofs.FieldLaws.{Wired, wired, shown}
@@ -78,14 +77,14 @@ read-parts g s fs = (
 
 -- ---- all options, by their kinds' own fields
 
-module _ (strings : (s : List ℕ) → StringsExact s) (g : Settings) where
+module _ (g : Settings) where
   -- lists of options that fit, and of frames that are sound and permitted, give each other back
   wired-all : (os : List Opt) → All (OptionFits g) os
       → All (Sound scanned) (map wire os) × All (Permitted g) (map wire os) × (layAll layFrame (map wire os) ≡ layOptions os) × (map fields (map wire os) ≡ os)
   unfolding layAll
   wired-all [] h = (tt, tt, refl, refl)
   wired-all (o ∷ os) h =
-      let w = wired strings g o (h .0) in
+      let w = wired g o (h .0) in
       let (sound, may, lay, own) = wired-all os (h .1) in
       ((w .sound, sound), (w .may, may), rw (w .layout, lay), rw (w .own, own))
 
@@ -93,7 +92,7 @@ module _ (strings : (s : List ℕ) → StringsExact s) (g : Settings) where
       → All (OptionFits g) (map fields fs) × (map wire (map fields fs) ≡ fs)
   shown-all [] b w m = (tt, refl)
   shown-all (f ∷ fs) b w m =
-      let (fits, back) = shown strings g f (b .0) (w .0) (m .0) in
+      let (fits, back) = shown g f (b .0) (w .0) (m .0) in
       let (all-fit, all-back) = shown-all fs (b .1) (w .1) (m .1) in
       ((fits, all-fit), rw (back, all-back))
 
