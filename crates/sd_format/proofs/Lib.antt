@@ -7,3 +7,4 @@ pub mod FieldLaws
 pub mod OptionLaws
 pub mod EntryLaws
 pub mod PayloadLaws
+pub mod Demand3

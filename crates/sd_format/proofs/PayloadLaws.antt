@@ -178,7 +178,7 @@ module _ (s : List ℕ) (b : Bytes s) (sz : Sizes (length s) (entries-length s) 
   unfolding entries-part
   entries-part-length = length-take-le (entries-length s) (drop 8 s) (rw length-drop (omega arith))
 
-  options-part-length : length (options-part s) ≡ options-length s
+  pub options-part-length : length (options-part s) ≡ options-length s
   unfolding options-part
   options-part-length = rw length-drop (omega arith)
 
@@ -200,7 +200,7 @@ bytes-entries : (s : List ℕ) → Bytes s → Bytes (entries-part s)
 unfolding entries-part
 bytes-entries s b = bytes-take (drop 8 s) (entries-length s) (bytes-drop s 8 b)
 
-bytes-options : (s : List ℕ) → Bytes s → Bytes (options-part s)
+pub bytes-options : (s : List ℕ) → Bytes s → Bytes (options-part s)
 unfolding options-part
 bytes-options s b = bytes-drop s (12 + entries-length s) b
 
@@ -255,26 +255,30 @@ module _ (g : Settings) where
       rw (lay-read p h)
       (λ i. accepted (record { flags = flags-are i; spare = spare-is i; reserved = reserved-is i; entries = p .entries; options = own i }))
 
-  -- what is read
-  pub read-says : (s : List ℕ) (r : Reading) → read-payload g s ≡ accepted r
-      → Sizes (length s) (entries-length s) (options-length s) × (r .opening ≡ take 4 s)
-      × (read-options g (options-part s) ≡ accepted (r .frames)) × (read-entries (length (r .frames)) (entries-part s) ≡ accepted (r .entries))
+  -- what an accepted reading says of its parts
+  pub record ReadSays (s : List ℕ) (r : Reading) : Type 0 where
+    pub sizes-fit : Sizes (length s) (entries-length s) (options-length s)
+    pub opening-is : r .opening ≡ take 4 s
+    pub frames-read : read-options g (options-part s) ≡ accepted (r .frames)
+    pub entries-read : read-entries (length (r .frames)) (entries-part s) ≡ accepted (r .entries)
+
+  pub read-says : (s : List ℕ) (r : Reading) → read-payload g s ≡ accepted r → ReadSays s r
   unfolding read-payload
   read-says s r e =
       let (v, e1) = then-accepted _ _ _ e in
       let (fs, e2, e3) = bind-accepted _ _ _ e1 in
       let (es, e4, e5) = bind-accepted _ _ _ e3 in
-      subst (λ (q : Reading). Sizes (length s) (entries-length s) (options-length s) × (q .opening ≡ take 4 s)
-      × (read-options g (options-part s) ≡ accepted (q .frames)) × (read-entries (length (q .frames)) (entries-part s) ≡ accepted (q .entries)))
-      (accepted-inj _ r e5) (sizes-said _ _ _ v, refl, e2, e4)
+      subst (ReadSays s) (accepted-inj _ r e5) (record { sizes-fit = sizes-said _ _ _ v; opening-is = refl; frames-read = e2; entries-read = e4 })
 
   -- what is read is laid out
   pub read-lay : (s : List ℕ) (r : Reading) → Bytes s → read-payload g s ≡ accepted r → Fits g (shown r) × (lay (shown r) ≡ s)
   unfolding shown layParts
   read-lay s r b e =
-      let (sz, opening, frames-read, entries-read) = read-says s r e in
-      let (fits, options-laid, back) = options-read g (options-part s) (bytes-options s b) (r .frames) frames-read in
-      let (entries-fit, entries-laid) = entries-exact _ (entries-part s) (bytes-entries s b) (r .entries) .0 entries-read in
+      let says = read-says s r e in
+      let sz = says .sizes-fit in
+      let opening = says .opening-is in
+      let (fits, options-laid, back) = options-read g (options-part s) (bytes-options s b) (r .frames) (says .frames-read) in
+      let (entries-fit, entries-laid) = entries-exact _ (entries-part s) (bytes-entries s b) (r .entries) .0 (says .entries-read) in
       let four : length (r .opening) ≡ 4 = rw opening (length-take-le 4 s (omega arith)) in
       let again = opening-again (r .opening) (rw opening (bytes-take s 4 b)) four in
       let whole : lay (shown r) ≡ s = rw (again, opening, entries-laid, options-laid) (whole-again s b sz) in (
