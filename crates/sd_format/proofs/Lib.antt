@@ -8,3 +8,4 @@ pub mod OptionLaws
 pub mod EntryLaws
 pub mod PayloadLaws
 pub mod Demand3
+pub mod Cases
