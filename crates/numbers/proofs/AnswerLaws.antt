@@ -23,6 +23,9 @@ module _ {A : Type 0} where
   pub accepted-inj : (x y : A) → accepted x ≡ accepted y → x ≡ y
   accepted-inj x y e = cc
 
+  pub refused-inj : (r q : Refusal) → _≡_ {A = Answer A} (refused r) (refused q) → r ≡ q
+  refused-inj r q e = cc
+
   pub when-accepted : (r : Refusal) (b : Bool) (a : Answer A) (x : A) → (refuse r when b else a) ≡ accepted x → (b ≡ false) × (a ≡ accepted x)
   unfolding refuse_when_else_
   when-accepted r true a x e = not-refused r x e

@@ -1,6 +1,6 @@
 -- One entry: what is read beside `n` options is exactly what is laid out and fits them. Assumes nothing.
-use mathlib.Core.Path.{_≡_, refl, sym, ap, ap₂, _∙_}
-use mathlib.Core.Bool.{Bool, true, false, _||_, cond}
+use mathlib.Core.Path.{_≡_, refl, sym, ap, ap₂, _∙_, subst}
+use mathlib.Core.Bool.{Bool, true, false, not, _||_, cond, false≢true}
 use mathlib.Core.Logic.{_↔_, _⊎_, inl, inr, ⊎-elim}
 use mathlib.Core.List.{List, [], _∷_, _++_}
 use Prim.Native.Nat.{ℕ, _+_, _*_, _/_, _%_, _≤_, _<_}
@@ -8,12 +8,14 @@ use native.Mathlib.Omega.{arith}
 use lib.ListN.{length, drop, getD, length-append, take-append-drop, List·getD-append}
 use lib.Dec.{leb, eqb}
 use borrow.Author.Tests.{ltb-false, leb-true, eqb-true, eqb-false, le-ltb, le-leb, eq-eqb, ne-eqb}
-use Rattle.numbers.specs.Answers.{Answer, accepted, pass}
+use Rattle.numbers.specs.Refusals.{Refusal, run-out-of-bounds}
+use Rattle.numbers.specs.Answers.{Answer, accepted, refused, Verdict, pass, refuse_when_else_}
 use Rattle.numbers.specs.Bytes.{Bytes, be16, be24, be32, at16, at24, at32}
-use Rattle.numbers.proofs.AnswerLaws.{when-pass, when-accepted, not-refused, accepted-inj, bind-pass, bind-accepted, then-pass, then-accepted, test-accepted, refuse-pass}
+use Rattle.numbers.proofs.AnswerLaws.{when-pass, when-accepted, not-refused, refused-inj, accepted-inj, bind-pass, bind-accepted, then-pass, then-accepted, test-accepted, refuse-pass}
 use Rattle.numbers.proofs.ByteLaws.{be16-at, be24-at, be32-at, tab, take-tab, at16-be, at24-be, at32-be}
 use Rattle.sd_format.specs.Options.{has}
 use Rattle.sd_format.specs.Entries.{Head, Group, Entry, find, offer, subscribe, subscribe-ack, head-of, head, group, minor, by-type, read-entry, inside, judge-runs, placed-entry}
+use Rattle.sd_format.specs.Demand3.{RunsRefused, first-run, second-run}
 use Rattle.sd_format.specs.Layout.{bit, layHead, layGroup, layEntry, RunFits, GroupFits, TailFits, EntryFits}
 
 pub length-entry : (e : Entry) → length (layEntry e) ≡ 16
@@ -45,6 +47,22 @@ runs-fit n h =
       (λ p. let w = test-accepted _ _ _ _ .0 p in (one .0 (w .0), two .0 (refuse-pass _ _ .0 (w .1)))),
       (λ f. test-accepted _ _ _ _ .1 (one .1 (f .0), refuse-pass _ _ .1 (two .1 (f .1)))),
     )
+
+-- which run a refusal names
+pub runs-refused : (n : ℕ) (h : Head) (r : Refusal) → judge-runs n h ≡ refused r → RunsRefused n h r
+unfolding judge-runs refuse_when_else_
+runs-refused n h r e = go (inside n (h .start1) (h .count1)) (inside n (h .start2) (h .count2)) refl refl e
+  where
+    named : (q : Refusal) → RunsRefused n h q → _≡_ {A = Verdict} (refused q) (refused r) → RunsRefused n h r
+    named q w same = subst (RunsRefused n h) (refused-inj q r same) w
+
+    go : (one two : Bool) → inside n (h .start1) (h .count1) ≡ one → inside n (h .start2) (h .count2) ≡ two
+        → (refuse run-out-of-bounds 1 (h .start1) (h .count1) n when not one else
+        refuse run-out-of-bounds 2 (h .start2) (h .count2) n when not two else
+        pass) ≡ refused r → RunsRefused n h r
+    go false two p q w = named _ (first-run (λ fits. false≢true (sym p ∙ run-inside n _ _ .1 fits))) w
+    go true false p q w = named _ (second-run (run-inside n _ _ .0 p) (λ fits. false≢true (sym q ∙ run-inside n _ _ .1 fits))) w
+    go true true p q w = not-refused r tt (sym w)
 
 -- ---- reading what was laid out: the head, and either tail, behind any type
 

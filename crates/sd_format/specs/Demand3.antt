@@ -2,15 +2,16 @@
 use Prim.Native.Nat.{ℕ, _≤_}
 use mathlib.Core.Path.{_≡_}
 use mathlib.Core.Logic.{_↔_}
-use mathlib.Core.List.{List, map}
+use mathlib.Core.List.{List, [], _∷_, map}
 use lib.ListN.{length, take, drop}
+use Rattle.numbers.specs.Refusals.{Refusal, refusal}
 use Rattle.numbers.specs.Answers.{Answer, accepted, given, All}
 use Rattle.sd_format.specs.Settings.{Settings}
 use Rattle.sd_format.specs.Sequences.{HandsOut, behind, counted}
 use Rattle.sd_format.specs.Strings.{read-string}
 use Rattle.sd_format.specs.Frames.{size, slots, table-after, look-up, next-option, next-of-run, along}
-use Rattle.sd_format.specs.Entries.{sixteen, next-entry}
-use Rattle.sd_format.specs.Layout.{GoodItem, layItems, Payload, lay, Fits, wire}
+use Rattle.sd_format.specs.Entries.{Head, sixteen, next-entry}
+use Rattle.sd_format.specs.Layout.{GoodItem, layItems, RunFits, Payload, lay, Fits, wire}
 use Rattle.sd_format.specs.Payload.{entries-part, options-part, read-payload, frames-of, handed-out}
 
 -- `p` fits the conditions, and its layout is `s`
@@ -41,6 +42,12 @@ pub record CursorsAgree (g : Settings) (s : List ℕ) (p : Payload) : Type 0 whe
   pub runs : (tab : List ℕ) → slots ≤ length tab → (start count : ℕ)
       → HandsOut (next-of-run (options-part s) (table-left g s tab) (length (p .options))) along (record { next = start; left = count })
       (take count (drop start (map wire (p .options))))
+
+-- what a refusal of an entry's runs says: which run leaves the list of `n` options, the first before the second
+pub data RunsRefused (n : ℕ) (h : Head) : Refusal → Type 0 where
+  first-run : (RunFits n (h .start1) (h .count1) → ⊥) → RunsRefused n h (refusal 12 (1 ∷ h .start1 ∷ h .count1 ∷ n ∷ []))
+  second-run : RunFits n (h .start1) (h .count1) → (RunFits n (h .start2) (h .count2) → ⊥)
+      → RunsRefused n h (refusal 12 (2 ∷ h .start2 ∷ h .count2 ∷ n ∷ []))
 
 -- a configuration string is accepted exactly when some list of items with good keys, laid out and closed, gives those bytes
 pub record StringsExact (s : List ℕ) : Type 0 where
