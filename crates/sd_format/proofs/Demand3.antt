@@ -5,9 +5,9 @@ use mathlib.Core.List.{List, map}
 use Prim.Native.Nat.{ℕ, _≤_}
 use native.Mathlib.Omega.{arith}
 use lib.ListN.{length, take, drop, length-map}
-use Rattle.numbers.specs.Answers.{Answer, accepted, refused, given}
+use Rattle.numbers.specs.Answers.{Answer, accepted, given}
 use Rattle.numbers.specs.Bytes.{Bytes}
-use Rattle.numbers.proofs.AnswerLaws.{accepted-inj, not-refused}
+use Rattle.numbers.proofs.AnswerLaws.{accepted-inj, given-accepted}
 use Rattle.sd_format.specs.Settings.{Settings}
 use Rattle.sd_format.specs.Sequences.{HandsOut, behind, counted}
 use Rattle.sd_format.specs.Kinds.{scanned}
@@ -24,16 +24,10 @@ use Rattle.sd_format.proofs.EntryLaws.{entry-plain, entry-long}
 use Rattle.sd_format.proofs.PayloadLaws.{lay-handed, ReadSays, read-says, read-lay, options-part-length, bytes-options}
 
 module _ (g : Settings) (s : List ℕ) (b : Bytes s) where
-  -- the reading behind what is handed out
-  reading : (a : Answer Reading) (p : Payload) → given shown a ≡ accepted p → (r : Reading) × (a ≡ accepted r) × (shown r ≡ p)
-  unfolding given
-  reading (accepted r) p e = (r, refl, accepted-inj (shown r) p e)
-  reading (refused r) p e = not-refused r p e
-
   handed-out-is : (p : Payload) → (handed-out g s ≡ accepted p) ↔ LaidOut g s p
   unfolding handed-out
   handed-out-is p = (
-    (λ e. let (r, read, same) = reading _ p e in subst (LaidOut g s) same (read-lay g s r b read)),
+    (λ e. let (r, read, same) = given-accepted shown _ p e in subst (LaidOut g s) same (read-lay g s r b read)),
     (λ h. rw (← (h .1)) (lay-handed g p (h .0))),
   )
 
@@ -94,10 +88,10 @@ module _ (g : Settings) (s : List ℕ) (b : Bytes s) where
         only-one = λ p q h k. accepted-inj p q (sym (handed-out-is p .1 h) ∙ handed-out-is q .1 k);
         handed = handed-out-is;
         looked-up = λ p h tab long k.
-            let (r, read, same) = reading _ p h in
+            let (r, read, same) = given-accepted shown _ p h in
             subst (λ (q : Payload). look-up (options-part s) (table-left g s tab) (length (q .options)) k ≡ given wire (counted (q .options) k)) same (found r read tab long k);
       }
 
   pub cursors : (p : Payload) → handed-out g s ≡ accepted p → CursorsAgree g s p
   unfolding handed-out
-  cursors p h = let (r, read, same) = reading _ p h in subst (CursorsAgree g s) same (cursors-of r read)
+  cursors p h = let (r, read, same) = given-accepted shown _ p h in subst (CursorsAgree g s) same (cursors-of r read)

@@ -9,3 +9,4 @@ pub mod EntryLaws
 pub mod PayloadLaws
 pub mod Demand3
 pub mod Cases
+pub mod CallLaws
