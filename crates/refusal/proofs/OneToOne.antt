@@ -1,0 +1,108 @@
+-- `said` keeps what the code refuses apart: two refusals of which it says the same are one. Shown by a way back. Assumes nothing.
+use Prim.Native.Nat.{ℕ}
+use mathlib.Core.Path.{_≡_, refl, sym, ap, _∙_}
+use mathlib.Core.Bool.{cond}
+use lib.ListN.{getD}
+use lib.Dec.{eqb}
+use Rattle.numbers.specs.Refusals as paper
+use Rattle.refusal.specs.declared.LengthSource.{LengthSource}
+use Rattle.refusal.specs.declared.LengthSource.the-variants.{Slice, OptionLength}
+use Rattle.refusal.specs.declared.StringError.{StringError}
+use Rattle.refusal.specs.declared.StringError.the-variants as string
+use Rattle.refusal.specs.declared.Refusal.{Refusal}
+use Rattle.refusal.specs.declared.Refusal.the-variants as code
+use Rattle.refusal.specs.Said.{said, saidString}
+
+-- ---- back from a number and its values, `v`; anything for what is never said
+
+source-of : ℕ → LengthSource
+source-of n = cond (eqb n 0) Slice OptionLength
+
+string-of : (ℕ → ℕ) → StringError
+string-of v =
+    cond (eqb (v 0) 1) string.MissingTerminator
+    (cond (eqb (v 0) 2) (string.ItemLengthExceedsRemaining (v 1) (v 2) (v 3))
+    (cond (eqb (v 0) 3) (string.TrailingDataAfterTerminator (v 1))
+    (cond (eqb (v 0) 4) (string.EmptyKey (v 1))
+    (cond (eqb (v 0) 5) (string.InvalidKeyByte (v 1) (v 2) (v 3))
+    (string.KeyContainsOnlyWhitespace (v 1))))))
+
+refusal-of : ℕ → (ℕ → ℕ) → Refusal
+refusal-of n v =
+    cond (eqb n 1) (code.UnexpectedEndOfSlice (v 0))
+    (cond (eqb n 2) (code.EntriesLengthTooLarge (v 0))
+    (cond (eqb n 3) (code.EntriesLengthUneven (v 0))
+    (cond (eqb n 4) (code.OptionsLengthTooLarge (v 0))
+    (cond (eqb n 5) (code.PayloadTooLarge (v 0))
+    (cond (eqb n 6) (code.PayloadLengthMismatch (v 0) (v 1))
+    (cond (eqb n 7) (code.OptionLength (v 0) (v 1) (source-of (v 2)))
+    (cond (eqb n 8) code.OptionLengthZero
+    (cond (eqb n 9) (code.ConfigurationString (string-of v))
+    (cond (eqb n 10) (code.UnknownOption (v 0))
+    (cond (eqb n 11) (code.UnknownEntry (v 0))
+    (cond (eqb n 12) (code.RunOutOfBounds (v 0) (v 1) (v 2) (v 3))
+    (cond (eqb n 13) (code.IndexTooLarge (v 0))
+    (cond (eqb n 14) (code.MessageId (v 0))
+    (cond (eqb n 15) (code.ClientId (v 0))
+    (cond (eqb n 16) code.SessionZero
+    (cond (eqb n 17) (code.InterfaceVersion (v 0))
+    (cond (eqb n 18) (code.MessageType (v 0))
+    (cond (eqb n 19) (code.ReturnCode (v 0))
+    (cond (eqb n 20) code.NothingThere
+    (cond (eqb n 21) code.TableMisfit
+    (code.FewSlots (v 0))))))))))))))))))))))
+
+value : paper.Refusal → ℕ → ℕ
+value r i = getD (r .values) i 0
+
+-- ---- and that it leads back
+
+string-back : (error : StringError) → string-of (value (saidString error)) ≡ error
+unfolding string-of value
+string-back string.MissingTerminator = refl
+string-back (string.ItemLengthExceedsRemaining b c d) = refl
+string-back (string.TrailingDataAfterTerminator b) = refl
+string-back (string.EmptyKey b) = refl
+string-back (string.InvalidKeyByte b c d) = refl
+string-back (string.KeyContainsOnlyWhitespace b) = refl
+
+-- every error of a string has the number 9
+nine : (error : StringError) → saidString error .number ≡ 9
+nine string.MissingTerminator = refl
+nine (string.ItemLengthExceedsRemaining b c d) = refl
+nine (string.TrailingDataAfterTerminator b) = refl
+nine (string.EmptyKey b) = refl
+nine (string.InvalidKeyByte b c d) = refl
+nine (string.KeyContainsOnlyWhitespace b) = refl
+
+back : (r : Refusal) → refusal-of (said r .number) (value (said r)) ≡ r
+unfolding refusal-of source-of value
+back (code.UnexpectedEndOfSlice a) = refl
+back (code.EntriesLengthTooLarge a) = refl
+back (code.EntriesLengthUneven a) = refl
+back (code.OptionsLengthTooLarge a) = refl
+back (code.PayloadTooLarge a) = refl
+back (code.PayloadLengthMismatch a b) = refl
+back (code.OptionLength a b Slice) = refl
+back (code.OptionLength a b OptionLength) = refl
+back code.OptionLengthZero = refl
+back (code.ConfigurationString error) = rw (nine error) (ap code.ConfigurationString (string-back error))
+back (code.UnknownOption a) = refl
+back (code.UnknownEntry a) = refl
+back (code.RunOutOfBounds a b c d) = refl
+back (code.IndexTooLarge a) = refl
+back (code.MessageId a) = refl
+back (code.ClientId a) = refl
+back code.SessionZero = refl
+back (code.InterfaceVersion a) = refl
+back (code.MessageType a) = refl
+back (code.ReturnCode a) = refl
+back code.NothingThere = refl
+back code.TableMisfit = refl
+back (code.FewSlots a) = refl
+
+pub string-one-to-one : (x y : StringError) → saidString x ≡ saidString y → x ≡ y
+string-one-to-one x y same = sym (string-back x) ∙ ap (λ (r : paper.Refusal). string-of (value r)) same ∙ string-back y
+
+pub one-to-one : (x y : Refusal) → said x ≡ said y → x ≡ y
+one-to-one x y same = sym (back x) ∙ ap (λ (r : paper.Refusal). refusal-of (r .number) (value r)) same ∙ back y
