@@ -4,14 +4,16 @@ use mathlib.Core.Logic.{_≢_}
 use mathlib.Core.Bool.{Bool, true, false, cond}
 use mathlib.Core.List.{List, [], _∷_}
 use Prim.Native.Nat.{ℕ}
+use native.Mathlib.Omega.{arith}
 use lib.Dec.{eqb}
 use borrow.Author.Tests.{eqb-true, ne-eqb}
 use Rattle.sd_format.specs.Options.{ipv4, ipv6, endpoint, multicast, sd-endpoint}
-use Rattle.sd_format.specs.Kinds.{Kind, Row, row, row-of, row-in, kinds, configuration, load-balancing, address, unknown, one-or-more}
+use Rattle.sd_format.specs.Kinds.{Kind, Row, row, row-of, row-in, kinds, configuration, load-balancing, address, unknown, Length, exactly, one-or-more}
 use Rattle.sd_option.specs.declared.kinds.OptionKind.{OptionKind}
 use Rattle.sd_option.specs.declared.kinds.OptionKind.the-variants as kind
+use Rattle.sd_option.specs.declared.kinds.KindLength.the-variants as len
 use Rattle.sd_option.specs.declared.kinds.KindRow.{KindRow}
-use Rattle.sd_option.specs.Kinds.{row-said, encoded}
+use Rattle.sd_option.specs.Kinds.{row-said, length-encoded, encoded}
 
 pub unlisted : (t : ℕ) → t ≢ 0x01 → t ≢ 0x02 → t ≢ 0x04 → t ≢ 0x14 → t ≢ 0x24 → t ≢ 0x06 → t ≢ 0x16 → t ≢ 0x26 → row t unknown one-or-more ≡ row-of t
 unfolding row-of row-in kinds
@@ -63,3 +65,13 @@ named-said (kind.Unknown t) = refl
 
 pub kind-pinned : (k m : OptionKind) → row-said k ≡ row-said m → k ≡ m
 kind-pinned k m e = sym (named-said k) ∙ ap (λ (w : Row). named (w .kind) (w .code)) e ∙ named-said m
+
+-- ---- the length that a row asks, out of the code's form
+
+pub asks-any : (asks : Length) → length-encoded asks ≡ len.OneOrMore → asks ≡ one-or-more
+asks-any (exactly n) e = let z : _≡_ {A = ℕ} 0 1 = cc in absurd (omega arith)
+asks-any one-or-more e = refl
+
+pub asks-exactly : (asks : Length) (n : ℕ) → length-encoded asks ≡ len.Exactly n → asks ≡ exactly n
+asks-exactly (exactly m) n e = let z : m ≡ n = cc in rw z
+asks-exactly one-or-more n e = let z : _≡_ {A = ℕ} 0 1 = cc in absurd (omega arith)

@@ -1,5 +1,7 @@
 // One option: its kind, its reading from the front of a slice, and its fields.
+mod bytes;
 pub mod kinds;
+pub mod reading;
 
 // An option's place in the count.
 pub struct Ordinal(pub usize);

@@ -1,0 +1,178 @@
+-- The reading of one option, test by test: what each refusal and what the acceptance says of the definitions. Assumes nothing.
+use mathlib.Core.Path.{_≡_, refl, sym, ap, _∙_, subst}
+use mathlib.Core.Logic.{_≢_}
+use mathlib.Core.Bool.{Bool, true, false, not, cond}
+use mathlib.Core.List.{List, [], _∷_}
+use Prim.Native.Nat.{ℕ, suc, _+_, _*_, _-_, _≤_, _<_}
+use native.Mathlib.Omega.{arith}
+use lib.ListN.{length, take, drop, getD, length-drop}
+use lib.Seq.{length-take-le, getD-take, getD-drop}
+use lib.Dec.{ltb, eqb}
+use borrow.Author.Tests.{lt-ltb, le-ltb, eq-eqb, ne-eqb, ltb-false, eqb-false}
+use Rattle.numbers.specs.Refusals.{Refusal, option-length, option-length-zero}
+use Rattle.numbers.specs.Answers.{Answer, accepted, refused, Verdict, pass, _>>=_, _>>_, refuse_when_else_, given}
+use Rattle.numbers.specs.Bytes.{at16}
+use Rattle.numbers.proofs.AnswerLaws.{not-refused, accepted-inj, when-accepted, bind-accepted, then-accepted}
+use Rattle.sd_format.specs.Options.{has}
+use Rattle.sd_format.specs.Kinds.{Kind, configuration, load-balancing, address, unknown, Length, exactly, one-or-more, Row, row-of, kind-of, judge-length, judge-text, judge-kind, unscanned}
+use Rattle.sd_format.specs.Frames.{Frame, size, frame, one-option}
+use Rattle.sd_format.specs.Fields.{discardable}
+use Rattle.refusal.specs.declared.Refusal as code
+use Rattle.refusal.specs.Said.{said}
+use Rattle.sd_option.specs.declared.reading.LengthAnswer.{LengthAnswer}
+use Rattle.sd_option.specs.declared.reading.LengthAnswer.the-variants as len
+use Rattle.sd_option.specs.Reading.{Head, head-of, body-length, length-judged, length-said, length-refusal}
+
+-- ---- what was accepted, in another form
+
+pub given-accepted : {A B : Type 0} (f : A → B) (a : Answer A) (y : B) → accepted y ≡ given f a → (x : A) × (a ≡ accepted x) × (y ≡ f x)
+unfolding given
+given-accepted f (accepted x) y e = (x, refl, accepted-inj y (f x) e)
+given-accepted f (refused r) y e = not-refused r y (sym e)
+
+pub given-refused : {A B : Type 0} (f : A → B) (a : Answer A) (r : Refusal) → refused r ≡ given f a → a ≡ refused r
+unfolding given
+given-refused f (accepted x) r e = not-refused r (f x) e
+given-refused f (refused q) r e = let z : r ≡ q = cc in rw z
+
+-- ---- the frame
+
+-- the frame of `n` bytes after the type
+abbrev pub front : List ℕ → ℕ → Frame
+front s n = record { type = getD s 2 0; body = take n (drop 3 s) }
+
+pub record Framed (s : List ℕ) (n : ℕ) : Type 0 where
+  pub some : 1 ≤ n
+  pub within : 3 + n ≤ length s
+  pub reads : frame s ≡ accepted (front s n)
+
+pub front-length : (s : List ℕ) (n : ℕ) → 3 + n ≤ length s → length (take n (drop 3 s)) ≡ n
+front-length s n h = length-take-le n (drop 3 s) (rw length-drop (omega arith))
+
+pub frame-short : (s : List ℕ) → length s < 3 → refused (option-length 3 (length s) 0) ≡ given body-length (frame s)
+unfolding frame refuse_when_else_ given
+frame-short s h = rw (lt-ltb (length s) 3 h)
+
+-- with the length that its first two bytes give
+module _ (s : List ℕ) (n : ℕ) (e : n ≡ getD s 0 0 * 256 + getD s 1 0) (h : 3 ≤ length s) where
+  word : at16 s 0 ≡ n
+  unfolding at16
+  word = sym e
+
+  pub frame-zero : n ≡ 0 → refused option-length-zero ≡ given body-length (frame s)
+  unfolding frame refuse_when_else_ given
+  frame-zero z = rw (le-ltb (length s) 3 h, word, eq-eqb n 0 z)
+
+  pub frame-long : n ≢ 0 → length s < 3 + n → refused (option-length (3 + n) (length s) 0) ≡ given body-length (frame s)
+  unfolding frame refuse_when_else_ given
+  frame-long p l = rw (le-ltb (length s) 3 h, word, ne-eqb n 0 p, lt-ltb (length s) (3 + n) l)
+
+  framed : n ≢ 0 → 3 + n ≤ length s → frame s ≡ accepted (front s n)
+  unfolding frame refuse_when_else_
+  framed p l = rw (le-ltb (length s) 3 h, word, ne-eqb n 0 p, le-ltb (length s) (3 + n) l)
+
+  pub frame-good : n ≢ 0 → 3 + n ≤ length s → accepted n ≡ given body-length (frame s)
+  unfolding given
+  frame-good p l = rw (framed p l, front-length s n l)
+
+-- what its acceptance says
+frame-tests : (s : List ℕ) (f : Frame) → frame s ≡ accepted f → Framed s (at16 s 0) × (f ≡ front s (at16 s 0))
+unfolding frame
+frame-tests s f e =
+    let a = when-accepted _ (ltb (length s) 3) _ f e in
+    let b = when-accepted _ (eqb (at16 s 0) 0) _ f (a .1) in
+    let d = when-accepted _ (ltb (length s) (3 + at16 s 0)) _ f (b .1) in
+    let w : 3 + at16 s 0 ≤ length s = ltb-false (length s) (3 + at16 s 0) (d .0) in
+    let p : at16 s 0 ≢ 0 = eqb-false (at16 s 0) 0 (b .0) in
+    let same : front s (at16 s 0) ≡ f = accepted-inj (front s (at16 s 0)) f (d .1) in
+    (record { some = omega arith; within = w; reads = e ∙ ap accepted (sym same) }, sym same)
+
+pub frame-accepted : (s : List ℕ) (n : ℕ) → accepted n ≡ given body-length (frame s) → Framed s n
+frame-accepted s n e =
+    let (f, reads, len) = given-accepted body-length (frame s) n e in
+    let (t, same) = frame-tests s f reads in
+    let m : at16 s 0 ≡ n = sym (len ∙ ap body-length same ∙ front-length s (at16 s 0) (t .within)) in
+    subst (λ (k : ℕ). Framed s k) m t
+
+-- ---- the kind's length
+
+module _ (had : ℕ) (body : List ℕ) (e : length body ≡ had) where
+  pub any-length : (asks : Length) → asks ≡ one-or-more → accepted had ≡ length-judged asks body
+  unfolding judge-length _>>_
+  any-length asks z = rw (z, e)
+
+  pub same-length : (asks : Length) (n : ℕ) → asks ≡ exactly n → had ≡ n → accepted had ≡ length-judged asks body
+  unfolding judge-length _>>_ refuse_when_else_
+  same-length asks n z w = rw (z, e, eq-eqb had n w)
+
+  pub other-length : (asks : Length) (n : ℕ) → asks ≡ exactly n → had ≢ n → refused (option-length n had 1) ≡ length-judged asks body
+  unfolding judge-length _>>_ refuse_when_else_
+  other-length asks n z w = rw (z, e, ne-eqb had n w)
+
+-- ---- one option
+
+abbrev body-of : List ℕ → ℕ → List ℕ
+body-of s n = take n (drop 3 s)
+
+-- lookup scans no string
+pub no-scan : (k : Kind) (body : List ℕ) → judge-text unscanned k body ≡ pass
+unfolding judge-text
+no-scan configuration body = refl
+no-scan load-balancing body = refl
+no-scan (address family role) body = refl
+no-scan unknown body = refl
+
+after-frame : (text : List ℕ → Verdict) (s : List ℕ) (n : ℕ) → Framed s n → one-option text s ≡ (judge-kind text (getD s 2 0) (body-of s n) >> accepted (front s n))
+unfolding one-option _>>=_
+after-frame text s n t = rw (t .reads)
+
+pub frame-refuses : (s : List ℕ) (a : LengthAnswer) (q r : code.Refusal) → length-said a ≡ given body-length (frame s) → a ≡ len.Refused q → r ≡ length-refusal a → refused (said r) ≡ given head-of (one-option unscanned s)
+unfolding one-option _>>=_ given
+frame-refuses s a q r told e w =
+    let f : frame s ≡ refused (said q) = given-refused body-length (frame s) (said q) (sym (ap length-said e) ∙ told) in
+    rw (f, w, e)
+
+then-refused : {A B : Type 0} (v : Verdict) (x : A) (r : Refusal) → refused r ≡ (v >> accepted x) → (b : Answer B) → (v >> b) ≡ refused r
+unfolding _>>_
+then-refused (accepted u) x r e b = not-refused r x e
+then-refused (refused q) x r e b = let z : r ≡ q = cc in rw z
+
+then-then : {A : Type 0} (v w : Verdict) (a : Answer A) → ((v >> w) >> a) ≡ (v >> (w >> a))
+unfolding _>>_
+then-then (accepted u) w a = refl
+then-then (refused q) w a = refl
+
+-- what is told of the frame of `n` bytes
+pub front-head : (s : List ℕ) (n : ℕ) → 1 ≤ n → 3 + n ≤ length s → head-of (front s n) ≡ record { row = row-of (getD s 2 0); discardable = has (getD s 3 0) 0x80; size = 3 + n }
+front-head s n some within =
+    let b : getD (take n (drop 3 s)) 0 0 ≡ getD s 3 0 = getD-take n (drop 3 s) 0 0 some ∙ getD-drop 3 s 0 0 in
+    rw (b, front-length s n within)
+
+pub frame-told : (s : List ℕ) (a : LengthAnswer) (n : ℕ) → length-said a ≡ given body-length (frame s) → a ≡ len.Good n → Framed s n
+frame-told s a n told e = frame-accepted s n (sym (ap length-said e) ∙ told)
+
+-- after its frame: its kind's length, then its string
+module _ (s : List ℕ) (n : ℕ) (t : Framed s n) (w : Row) (same : w ≡ row-of (getD s 2 0)) where
+  in-order : (text : List ℕ → Verdict) → one-option text s ≡ (judge-length (w .len) (body-of s n) >> (judge-text text (w .kind) (body-of s n) >> accepted (front s n)))
+  unfolding judge-kind
+  in-order text = after-frame text s n t ∙ then-then (judge-length (row-of (getD s 2 0) .len) (body-of s n)) (judge-text text (kind-of (getD s 2 0)) (body-of s n)) (accepted (front s n)) ∙ rw same
+
+  module _ (a : LengthAnswer) (judged : (body : List ℕ) → length body ≡ n → length-said a ≡ length-judged (w .len) body) where
+    told : length-said a ≡ length-judged (w .len) (body-of s n)
+    told = judged (body-of s n) (front-length s n (t .within))
+
+    pub kind-refuses : (q r : code.Refusal) → a ≡ len.Refused q → r ≡ length-refusal a → refused (said r) ≡ given head-of (one-option unscanned s)
+    unfolding given
+    kind-refuses q r e z =
+        let f = then-refused (judge-length (w .len) (body-of s n)) (length (body-of s n)) (said q) (sym (ap length-said e) ∙ told) (judge-text unscanned (w .kind) (body-of s n) >> accepted (front s n)) in
+        rw (in-order unscanned, f, z, e)
+
+    kind-accepts : (m : ℕ) → a ≡ len.Good m → one-option unscanned s ≡ accepted (front s n)
+    unfolding _>>_
+    kind-accepts m e =
+        let f = then-accepted (judge-length (w .len) (body-of s n)) (accepted (length (body-of s n))) m (sym (sym (ap length-said e) ∙ told)) in
+        in-order unscanned ∙ rw (f .0, no-scan (w .kind) (body-of s n))
+
+    pub head-told : (m : ℕ) → a ≡ len.Good m → (d : Bool) → d ≡ has (getD s 3 0) 0x80 → accepted (record { row = w; discardable = d; size = 3 + n }) ≡ given head-of (one-option unscanned s)
+    unfolding given
+    head-told m e d bit = rw (kind-accepts m e, front-head s n (t .some) (t .within), same, bit)
