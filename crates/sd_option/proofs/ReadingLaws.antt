@@ -111,8 +111,8 @@ module _ (had : ℕ) (body : List ℕ) (e : length body ≡ had) where
 
 -- ---- one option
 
-abbrev body-of : List ℕ → ℕ → List ℕ
-body-of s n = take n (drop 3 s)
+abbrev pub body-at : List ℕ → ℕ → List ℕ
+body-at s n = take n (drop 3 s)
 
 -- lookup scans no string
 pub no-scan : (k : Kind) (body : List ℕ) → judge-text unscanned k body ≡ pass
@@ -122,7 +122,7 @@ no-scan load-balancing body = refl
 no-scan (address family role) body = refl
 no-scan unknown body = refl
 
-after-frame : (text : List ℕ → Verdict) (s : List ℕ) (n : ℕ) → Framed s n → one-option text s ≡ (judge-kind text (getD s 2 0) (body-of s n) >> accepted (front s n))
+after-frame : (text : List ℕ → Verdict) (s : List ℕ) (n : ℕ) → Framed s n → one-option text s ≡ (judge-kind text (getD s 2 0) (body-at s n) >> accepted (front s n))
 unfolding one-option _>>=_
 after-frame text s n t = rw (t .reads)
 
@@ -153,26 +153,69 @@ frame-told s a n told e = frame-accepted s n (sym (ap length-said e) ∙ told)
 
 -- after its frame: its kind's length, then its string
 module _ (s : List ℕ) (n : ℕ) (t : Framed s n) (w : Row) (same : w ≡ row-of (getD s 2 0)) where
-  in-order : (text : List ℕ → Verdict) → one-option text s ≡ (judge-length (w .len) (body-of s n) >> (judge-text text (w .kind) (body-of s n) >> accepted (front s n)))
+  in-order : (text : List ℕ → Verdict) → one-option text s ≡ (judge-length (w .len) (body-at s n) >> (judge-text text (w .kind) (body-at s n) >> accepted (front s n)))
   unfolding judge-kind
-  in-order text = after-frame text s n t ∙ then-then (judge-length (row-of (getD s 2 0) .len) (body-of s n)) (judge-text text (kind-of (getD s 2 0)) (body-of s n)) (accepted (front s n)) ∙ rw same
+  in-order text = after-frame text s n t ∙ then-then (judge-length (row-of (getD s 2 0) .len) (body-at s n)) (judge-text text (kind-of (getD s 2 0)) (body-at s n)) (accepted (front s n)) ∙ rw same
 
   module _ (a : LengthAnswer) (judged : (body : List ℕ) → length body ≡ n → length-said a ≡ length-judged (w .len) body) where
-    told : length-said a ≡ length-judged (w .len) (body-of s n)
-    told = judged (body-of s n) (front-length s n (t .within))
+    told : length-said a ≡ length-judged (w .len) (body-at s n)
+    told = judged (body-at s n) (front-length s n (t .within))
 
     pub kind-refuses : (q r : code.Refusal) → a ≡ len.Refused q → r ≡ length-refusal a → refused (said r) ≡ given head-of (one-option unscanned s)
     unfolding given
     kind-refuses q r e z =
-        let f = then-refused (judge-length (w .len) (body-of s n)) (length (body-of s n)) (said q) (sym (ap length-said e) ∙ told) (judge-text unscanned (w .kind) (body-of s n) >> accepted (front s n)) in
+        let f = then-refused (judge-length (w .len) (body-at s n)) (length (body-at s n)) (said q) (sym (ap length-said e) ∙ told) (judge-text unscanned (w .kind) (body-at s n) >> accepted (front s n)) in
         rw (in-order unscanned, f, z, e)
 
     kind-accepts : (m : ℕ) → a ≡ len.Good m → one-option unscanned s ≡ accepted (front s n)
     unfolding _>>_
     kind-accepts m e =
-        let f = then-accepted (judge-length (w .len) (body-of s n)) (accepted (length (body-of s n))) m (sym (sym (ap length-said e) ∙ told)) in
-        in-order unscanned ∙ rw (f .0, no-scan (w .kind) (body-of s n))
+        let f = then-accepted (judge-length (w .len) (body-at s n)) (accepted (length (body-at s n))) m (sym (sym (ap length-said e) ∙ told)) in
+        in-order unscanned ∙ rw (f .0, no-scan (w .kind) (body-at s n))
 
     pub head-told : (m : ℕ) → a ≡ len.Good m → (d : Bool) → d ≡ has (getD s 3 0) 0x80 → accepted (record { row = w; discardable = d; size = 3 + n }) ≡ given head-of (one-option unscanned s)
     unfolding given
     head-told m e d bit = rw (kind-accepts m e, front-head s n (t .some) (t .within), same, bit)
+
+-- ---- what the acceptance of an option says
+
+pub record Stands (s : List ℕ) (n : ℕ) (f : Frame) : Type 0 where
+  pub framed : Framed s n
+  pub same : f ≡ front s n
+  pub fits : judge-length (row-of (getD s 2 0) .len) (body-at s n) ≡ pass
+
+pub read-stands : (s : List ℕ) (f : Frame) → one-option unscanned s ≡ accepted f → Stands s (at16 s 0) f
+unfolding one-option judge-kind
+read-stands s f e =
+    let (g, framed, rest) = bind-accepted (frame s) _ f e in
+    let (judged, kept) = then-accepted (judge-kind unscanned (g .type) (g .body)) (accepted g) f rest in
+    let (t, same) = frame-tests s g framed in
+    let fits = then-accepted (judge-length (row-of (g .type) .len) (g .body)) (judge-text unscanned (kind-of (g .type)) (g .body)) tt judged .0 in
+    record { framed = t; same = sym (accepted-inj g f kept) ∙ same; fits = rw same at fits }
+
+-- the option whose head was told
+pub record Found (s : List ℕ) (h : Head) : Type 0 where
+  pub some : 4 ≤ h .size
+  pub within : h .size ≤ length s
+  pub row : h .row ≡ row-of (getD s 2 0)
+  pub reads : one-option unscanned s ≡ accepted (front s (h .size - 3))
+  pub fits : judge-length (row-of (getD s 2 0) .len) (body-at s (h .size - 3)) ≡ pass
+  pub head : h ≡ head-of (front s (h .size - 3))
+
+pub found : (s : List ℕ) (h : Head) → accepted h ≡ given head-of (one-option unscanned s) → Found s h
+found s h e =
+    let (f, reads, told) = given-accepted head-of (one-option unscanned s) h e in
+    let t = read-stands s f reads in
+    let w = t .framed .within in
+    let some = t .framed .some in
+    let z : h ≡ head-of (front s (at16 s 0)) = told ∙ ap head-of (t .same) in
+    let long : h .size ≡ 3 + at16 s 0 = ap (λ (x : Head). x .size) z ∙ ap (λ (k : ℕ). 3 + k) (front-length s (at16 s 0) w) in
+    let n : at16 s 0 ≡ h .size - 3 = omega arith in
+    record {
+      some = omega arith;
+      within = omega arith;
+      row = ap (λ (x : Head). x .row) z;
+      reads = reads ∙ ap accepted (t .same ∙ ap (front s) n);
+      fits = rw n at (t .fits);
+      head = z ∙ ap (λ (k : ℕ). head-of (front s k)) n;
+    }

@@ -54,3 +54,11 @@ part (refused r) = []
 abbrev pub length-refusal : LengthAnswer → Refusal
 length-refusal (len.Good n) = NothingThere
 length-refusal (len.Refused r) = r
+
+abbrev pub option-refusal : OptionAnswer → Refusal
+option-refusal (option.Good h) = NothingThere
+option-refusal (option.Refused r) = r
+
+-- the bytes after the type
+abbrev pub body-of : Frame → List ℕ
+body-of f = f .body

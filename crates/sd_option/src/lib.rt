@@ -1,5 +1,6 @@
 // One option: its kind, its reading from the front of a slice, and its fields.
 mod bytes;
+pub mod fields;
 pub mod kinds;
 pub mod reading;
 
