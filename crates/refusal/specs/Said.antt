@@ -1,6 +1,6 @@
 -- Document 01's number and values for everything that the code refuses on the service discovery side. Assumes nothing: these are definitions.
 use Prim.Native.Nat.{ℕ}
-use mathlib.Core.List.{List, [], _∷_}
+use mathlib.Core.List.{[], _∷_}
 use lib.ListN.{length, getD}
 use Rattle.numbers.specs.Refusals as paper
 use Rattle.refusal.specs.declared.LengthSource.{LengthSource}

@@ -1,0 +1,119 @@
+// The check of a configuration string: items of a length byte and that many bytes, closed by a zero length byte, which must be the last byte.
+// One function for each rule of document 01, all with the same answer; an item's bytes are looked at once, and no further than its key.
+use refusal::StringError;
+ghost use mathlib.Core.Path.{_≡_};
+ghost use mathlib.Core.Bool.{_&&_};
+ghost use lib.Dec.{eqb};
+ghost use Rattle.numbers.specs.Answers.{verdict};
+ghost use Rattle.sd_format.specs.Strings.{key-of, judge-key, judge-item, closed, read-string};
+ghost use Rattle.config_string.specs.Answered.{answered, key-byte, judge-end};
+
+// What a string is found to be, and an item or a key of it. Below, `at` is the place of the item's length byte, which the errors give.
+pub enum StringAnswer {
+    Valid,
+    Refused(StringError),
+}
+
+// Whether `b` may stand in a key.
+fn is_key_byte(b: u8) -> bool
+    ensures { λ r. ⌜ r ≡ key-byte b ⌝ }
+{
+    if b < 0x20 {
+        return false;
+    }
+    b <= 0x7e
+}
+
+// Whether a key that was all spaces so far still is with `b`.
+fn still_blank(blank: bool, b: u8) -> bool
+    ensures { λ r. ⌜ r ≡ (blank && eqb b 0x20) ⌝ }
+{
+    if blank {
+        return b == 0x20;
+    }
+    false
+}
+
+// A key that ends after `len` bytes, each of them in 0x20 to 0x7e: it is neither empty nor all spaces.
+fn check_end_of_key(at: usize, len: usize, blank: bool) -> StringAnswer
+    ensures { λ r. ⌜ answered r ≡ judge-end at len blank ⌝ }
+{
+    if len == 0 {
+        return StringAnswer::Refused(StringError::EmptyKey { item_offset: at });
+    }
+    if blank {
+        return StringAnswer::Refused(StringError::KeyContainsOnlyWhitespace { item_offset: at });
+    }
+    StringAnswer::Valid
+}
+
+// The key of an item, what precedes the first `=`: empty, first bad byte, all spaces.
+fn check_key(at: usize, item: &[u8]) -> StringAnswer
+    ensures { λ r. ⌜ answered r ≡ judge-key at (key-of (now (item .entry))) ⌝ }
+{
+    let mut blank = true;
+    let mut i: usize = 0;
+    while i < item.len() {
+        let b = item[i];
+        if b == 0x3d {
+            return check_end_of_key(at, i, blank);
+        }
+        if !is_key_byte(b) {
+            return StringAnswer::Refused(StringError::InvalidKeyByte {
+                item_offset: at,
+                byte_offset: i,
+                value: b,
+            });
+        }
+        blank = still_blank(blank, b);
+        i += 1;
+    }
+    check_end_of_key(at, i, blank)
+}
+
+// An item, with what follows its length byte: it is no longer than that, then its key.
+fn check_item(at: usize, size: u8, rest: &[u8]) -> StringAnswer
+    ensures { λ r. ⌜ answered r ≡ judge-item at size (now (rest .entry)) ⌝ }
+{
+    let n = size as usize;
+    if rest.len() < n {
+        return StringAnswer::Refused(StringError::ItemLengthExceedsRemaining {
+            item_offset: at,
+            item_length: size,
+            remaining: rest.len(),
+        });
+    }
+    check_key(at, &rest[..n])
+}
+
+// The terminator, with what follows it: nothing may.
+fn check_terminator(at: usize, rest: &[u8]) -> StringAnswer
+    ensures { λ r. ⌜ answered r ≡ verdict (closed at (now (rest .entry))) ⌝ }
+{
+    if rest.len() == 0 {
+        return StringAnswer::Valid;
+    }
+    StringAnswer::Refused(StringError::TrailingDataAfterTerminator {
+        terminator_offset: at,
+    })
+}
+
+// A whole configuration string: its items from the front, up to the first that is refused, and the terminator.
+pub fn check_string(s: &[u8]) -> StringAnswer
+    ensures { λ r. ⌜ answered r ≡ verdict (read-string (now (s .entry))) ⌝ }
+{
+    let mut at: usize = 0;
+    while at < s.len() {
+        let size = s[at];
+        let start = at + 1;
+        if size == 0 {
+            return check_terminator(at, &s[start..]);
+        }
+        let answer = check_item(at, size, &s[start..]);
+        let StringAnswer::Valid = answer else {
+            return answer;
+        };
+        at = start + size as usize;
+    }
+    StringAnswer::Refused(StringError::MissingTerminator)
+}
