@@ -12,7 +12,6 @@ use lib.Seq.{length-take-le, getD-take, getD-drop, take-take, drop-drop}
 use lib.Dec.{eqb}
 use borrow.Author.Tests.{eqb-true}
 use types.Run.{OneOf, miss}
-use denote.Enum.Declared
 use Rattle.numbers.specs.Refusals.{Refusal, nothing-there}
 use Rattle.numbers.specs.Answers.{Answer, accepted, refused, Verdict, pass, _>>=_, given, All, refuse_when_else_}
 use Rattle.numbers.specs.Bytes.{at16}
@@ -31,19 +30,17 @@ use Rattle.sd_option.specs.declared.reading.OptionAnswer.the-variants as
 use Rattle.sd_option.specs.Kinds.{row-said}
 use Rattle.sd_option.specs.Reading.{Head, head-of, head-said, option-said, option-refusal}
 use Rattle.sd_option.specs.Fields.{size-asked, of-unknown}
-use Rattle.sd_option.proofs.kinds.OptionKind.{the-type}
-use Rattle.sd_option.proofs.ReadingLaws.{Framed, Stands, Found, front, body-at, front-length, found, read-stands, given-accepted, given-refused}
+use Rattle.sd_option.proofs.KindLaws.{tag}
+use Rattle.sd_option.proofs.ReadingLaws.{Framed, Stands, Found, front, body-at, front-length, found, not-found, read-stands, given-accepted, given-refused}
 
 -- ---- asked of an option that was read
 
 module _ {A : Type 0} (field : Kind → List ℕ → Answer A) (s : List ℕ) where
   pub asked-of-refused : (a : OptionAnswer) (q r : code.Refusal) → option-said a ≡ given head-of (one-option unscanned s) → a ≡ option.Refused q → r ≡ option-refusal a → asked field s ≡ refused (said r)
   unfolding asked _>>=_
-  asked-of-refused a q r told e w =
-      let f : one-option unscanned s ≡ refused (said q) = given-refused head-of (one-option unscanned s) (said q) (sym (ap option-said e) ∙ told) in
-      rw (f, w, e)
+  asked-of-refused a q r told e w = rw (not-found unscanned s a told q e, w, e)
 
-  pub asked-of-found : (h : Head) → Found s h → asked field s ≡ field (h .row .kind) (body-at s (h .size - 3))
+  pub asked-of-found : (h : Head) → Found unscanned s h → asked field s ≡ field (h .row .kind) (body-at s (h .size - 3))
   unfolding asked _>>=_
   asked-of-found h t = rw (t .reads, t .row)
 
@@ -97,9 +94,6 @@ unfolding row-of
 address-row t = row-roomy t kinds kinds-roomy
 
 -- the arms of a match on the kind
-abbrev pub tag : OptionKind → ℕ
-tag k = Declared.tagOf the-type k
-
 abbrev pub ipv4-kinds : List ℕ
 ipv4-kinds = 2 ∷ 3 ∷ 4 ∷ []
 
@@ -152,12 +146,8 @@ unfolding given
 size-of-refused field s a q r told e w = rw (asked-of-refused field s a q r told e w)
 
 -- where the code has the option's head
-module _ (s : List ℕ) (a : OptionAnswer) (hd : OptionHead) (told : option-said a ≡ given head-of (one-option unscanned s)) (e : a ≡ option.Good hd) where
-  pub here : Found s (head-said hd)
-  here = found s (head-said hd) (sym (ap option-said e) ∙ told)
-
-  pub asked-here : {A : Type 0} (field : Kind → List ℕ → Answer A) → asked field s ≡ field (row-said (hd .kind) .kind) (body-at s (hd .size - 3))
-  asked-here field = asked-of-found field s (head-said hd) here
+pub asked-here : {A : Type 0} (field : Kind → List ℕ → Answer A) (s : List ℕ) (hd : OptionHead) → Found unscanned s (head-said hd) → asked field s ≡ field (row-said (hd .kind) .kind) (body-at s (hd .size - 3))
+asked-here field s hd t = asked-of-found field s (head-said hd) t
 
 -- ---- the address, over both widths
 
@@ -167,15 +157,14 @@ address-room s n fam within fits has = sym (front-length s n within) ∙ exact-l
 address-width : (s : List ℕ) (n : ℕ) (fam : Family) → 3 + n ≤ length s → n ≡ 5 + width fam → length (address-bytes fam (body-at s n)) ≡ width fam
 address-width s n fam within e = length-take-le (width fam) (drop 1 (body-at s n)) (rw (length-drop, front-length s n within) (omega arith))
 
-module _ (s : List ℕ) (a : OptionAnswer) (hd : OptionHead) (told : option-said a ≡ given head-of (one-option unscanned s)) (e : a ≡ option.Good hd) where
+module _ (s : List ℕ) (hd : OptionHead) (t : Found unscanned s (head-said hd)) where
   pub address-size : (fam : Family) → family-of (row-said (hd .kind) .kind) ≡ some fam → accepted (width fam) ≡ size-asked (of-address address-bytes) s
   unfolding given
   address-size fam has =
-      let t = here s a hd told e in
       let within : 3 + (hd .size - 3) ≤ length s = omega arith in
       let room = address-room s (hd .size - 3) fam within (t .fits) (rw (t .row) at has) in
-      rw (asked-here s a hd told e (of-address address-bytes), address-has address-bytes (row-said (hd .kind) .kind) fam (body-at s (hd .size - 3)) has, address-width s (hd .size - 3) fam within room)
+      rw (asked-here (of-address address-bytes) s hd t, address-has address-bytes (row-said (hd .kind) .kind) fam (body-at s (hd .size - 3)) has, address-width s (hd .size - 3) fam within room)
 
   pub no-address : family-of (row-said (hd .kind) .kind) ≡ none → refused nothing-there ≡ size-asked (of-address address-bytes) s
   unfolding given
-  no-address lacks = rw (asked-here s a hd told e (of-address address-bytes), address-lacks address-bytes (row-said (hd .kind) .kind) (body-at s (hd .size - 3)) lacks)
+  no-address lacks = rw (asked-here (of-address address-bytes) s hd t, address-lacks address-bytes (row-said (hd .kind) .kind) (body-at s (hd .size - 3)) lacks)

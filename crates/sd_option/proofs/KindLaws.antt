@@ -13,6 +13,8 @@ use Rattle.sd_option.specs.declared.kinds.OptionKind.{OptionKind}
 use Rattle.sd_option.specs.declared.kinds.OptionKind.the-variants as kind
 use Rattle.sd_option.specs.declared.kinds.KindLength.the-variants as len
 use Rattle.sd_option.specs.declared.kinds.KindRow.{KindRow}
+use denote.Enum.Declared
+use Rattle.sd_option.proofs.kinds.OptionKind.{the-type}
 use Rattle.sd_option.specs.Kinds.{row-said, length-encoded, encoded}
 
 pub unlisted : (t : ℕ) → t ≢ 0x01 → t ≢ 0x02 → t ≢ 0x04 → t ≢ 0x14 → t ≢ 0x24 → t ≢ 0x06 → t ≢ 0x16 → t ≢ 0x26 → row t unknown one-or-more ≡ row-of t
@@ -33,6 +35,10 @@ code-in-rows t (w ∷ ws) = code-in t w (row-in ws t) (eqb t (w .code)) refl (co
 pub row-code : (t : ℕ) → row-of t .code ≡ t
 unfolding row-of
 row-code t = code-in-rows t kinds
+
+-- which variant a kind is
+abbrev pub tag : OptionKind → ℕ
+tag k = Declared.tagOf the-type k
 
 -- an arm of the match on a kind
 pub kind-arm : {r : KindRow} {k here : OptionKind} → r ≡ encoded (row-said here) → k ≡ here → r ≡ encoded (row-said k)

@@ -6,22 +6,38 @@ use mathlib.Core.List.{List, [], _∷_}
 use Prim.Native.Nat.{ℕ, suc, _+_, _*_, _-_, _≤_, _<_}
 use native.Mathlib.Omega.{arith}
 use lib.ListN.{length, take, drop, getD, length-drop}
-use lib.Seq.{length-take-le, getD-take, getD-drop}
+use lib.Seq.{length-take-le, getD-take, getD-drop, drop-drop, take-nil}
 use lib.Dec.{ltb, eqb}
+use types.Run.{OneOf, miss}
 use borrow.Author.Tests.{lt-ltb, le-ltb, eq-eqb, ne-eqb, ltb-false, eqb-false}
 use Rattle.numbers.specs.Refusals.{Refusal, option-length, option-length-zero}
 use Rattle.numbers.specs.Answers.{Answer, accepted, refused, Verdict, pass, _>>=_, _>>_, refuse_when_else_, given}
 use Rattle.numbers.specs.Bytes.{at16}
 use Rattle.numbers.proofs.AnswerLaws.{not-refused, accepted-inj, when-accepted, bind-accepted, then-accepted}
 use Rattle.sd_format.specs.Options.{has}
-use Rattle.sd_format.specs.Kinds.{Kind, configuration, load-balancing, address, unknown, Length, exactly, one-or-more, Row, row-of, kind-of, judge-length, judge-text, judge-kind, unscanned}
-use Rattle.sd_format.specs.Frames.{Frame, size, frame, one-option}
+use Rattle.sd_format.specs.Kinds.{Kind, configuration, load-balancing, address, unknown, Length, exactly, one-or-more, Row, row-of, kind-of, judge-length, row-in, kinds, judge-text, judge-kind, scanned, unscanned}
+use Rattle.sd_format.specs.Frames.{Frame, size, frame, one-option, read-option}
 use Rattle.sd_format.specs.Fields.{discardable}
+use Rattle.refusal.specs.declared.StringError.{StringError}
 use Rattle.refusal.specs.declared.Refusal as code
+use Rattle.config_string.specs.declared.StringAnswer.{StringAnswer}
+use Rattle.config_string.specs.declared.StringAnswer.the-variants as string
+use Rattle.config_string.specs.Answered.{answered}
+use Rattle.sd_option.specs.declared.kinds.OptionKind.{OptionKind}
+use Rattle.sd_option.specs.declared.kinds.OptionKind.the-variants as kind
+use Rattle.sd_option.specs.Kinds.{row-said}
+use Rattle.sd_option.proofs.KindLaws.{tag}
 use Rattle.refusal.specs.Said.{said}
+use Rattle.sd_option.specs.declared.reading.OptionHead.{OptionHead}
+use Rattle.sd_option.specs.declared.reading.OptionAnswer.{OptionAnswer}
+use Rattle.sd_option.specs.declared.reading.OptionAnswer.the-variants as option
 use Rattle.sd_option.specs.declared.reading.LengthAnswer.{LengthAnswer}
 use Rattle.sd_option.specs.declared.reading.LengthAnswer.the-variants as len
-use Rattle.sd_option.specs.Reading.{Head, head-of, body-length, length-judged, length-said, length-refusal}
+use Rattle.sd_option.specs.Reading.{Head, head-of, head-said, option-said, part, body-of, body-length, length-judged, length-said, length-refusal, string-refusal}
+
+-- two cases that are never one
+clash : {X : Type 0} → _≡_ {A = ℕ} 0 1 → X
+clash z = absurd (omega arith)
 
 -- ---- what was accepted, in another form
 
@@ -177,45 +193,144 @@ module _ (s : List ℕ) (n : ℕ) (t : Framed s n) (w : Row) (same : w ≡ row-o
     unfolding given
     head-told m e d bit = rw (kind-accepts m e, front-head s n (t .some) (t .within), same, bit)
 
--- ---- what the acceptance of an option says
+-- ---- what the acceptance of an option says, whatever judges its string
 
 pub record Stands (s : List ℕ) (n : ℕ) (f : Frame) : Type 0 where
   pub framed : Framed s n
   pub same : f ≡ front s n
   pub fits : judge-length (row-of (getD s 2 0) .len) (body-at s n) ≡ pass
 
-pub read-stands : (s : List ℕ) (f : Frame) → one-option unscanned s ≡ accepted f → Stands s (at16 s 0) f
-unfolding one-option judge-kind
-read-stands s f e =
-    let (g, framed, rest) = bind-accepted (frame s) _ f e in
-    let (judged, kept) = then-accepted (judge-kind unscanned (g .type) (g .body)) (accepted g) f rest in
-    let (t, same) = frame-tests s g framed in
-    let fits = then-accepted (judge-length (row-of (g .type) .len) (g .body)) (judge-text unscanned (kind-of (g .type)) (g .body)) tt judged .0 in
-    record { framed = t; same = sym (accepted-inj g f kept) ∙ same; fits = rw same at fits }
-
 -- the option whose head was told
-pub record Found (s : List ℕ) (h : Head) : Type 0 where
+pub record Found (text : List ℕ → Verdict) (s : List ℕ) (h : Head) : Type 0 where
   pub some : 4 ≤ h .size
   pub within : h .size ≤ length s
   pub row : h .row ≡ row-of (getD s 2 0)
-  pub reads : one-option unscanned s ≡ accepted (front s (h .size - 3))
+  pub reads : one-option text s ≡ accepted (front s (h .size - 3))
   pub fits : judge-length (row-of (getD s 2 0) .len) (body-at s (h .size - 3)) ≡ pass
   pub head : h ≡ head-of (front s (h .size - 3))
 
-pub found : (s : List ℕ) (h : Head) → accepted h ≡ given head-of (one-option unscanned s) → Found s h
-found s h e =
-    let (f, reads, told) = given-accepted head-of (one-option unscanned s) h e in
-    let t = read-stands s f reads in
-    let w = t .framed .within in
-    let some = t .framed .some in
-    let z : h ≡ head-of (front s (at16 s 0)) = told ∙ ap head-of (t .same) in
-    let long : h .size ≡ 3 + at16 s 0 = ap (λ (x : Head). x .size) z ∙ ap (λ (k : ℕ). 3 + k) (front-length s (at16 s 0) w) in
-    let n : at16 s 0 ≡ h .size - 3 = omega arith in
-    record {
-      some = omega arith;
-      within = omega arith;
-      row = ap (λ (x : Head). x .row) z;
-      reads = reads ∙ ap accepted (t .same ∙ ap (front s) n);
-      fits = rw n at (t .fits);
-      head = z ∙ ap (λ (k : ℕ). head-of (front s k)) n;
-    }
+module _ (text : List ℕ → Verdict) (s : List ℕ) where
+  pub read-stands : (f : Frame) → one-option text s ≡ accepted f → Stands s (at16 s 0) f
+  unfolding one-option judge-kind
+  read-stands f e =
+      let (g, framed, rest) = bind-accepted (frame s) _ f e in
+      let (judged, kept) = then-accepted (judge-kind text (g .type) (g .body)) (accepted g) f rest in
+      let (t, same) = frame-tests s g framed in
+      let fits = then-accepted (judge-length (row-of (g .type) .len) (g .body)) (judge-text text (kind-of (g .type)) (g .body)) tt judged .0 in
+      record { framed = t; same = sym (accepted-inj g f kept) ∙ same; fits = rw same at fits }
+
+  found-head : (h : Head) → accepted h ≡ given head-of (one-option text s) → Found text s h
+  found-head h e =
+      let (f, reads, told) = given-accepted head-of (one-option text s) h e in
+      let t = read-stands f reads in
+      let w = t .framed .within in
+      let some = t .framed .some in
+      let z : h ≡ head-of (front s (at16 s 0)) = told ∙ ap head-of (t .same) in
+      let long : h .size ≡ 3 + at16 s 0 = ap (λ (x : Head). x .size) z ∙ ap (λ (k : ℕ). 3 + k) (front-length s (at16 s 0) w) in
+      let n : at16 s 0 ≡ h .size - 3 = omega arith in
+      record {
+        some = omega arith;
+        within = omega arith;
+        row = ap (λ (x : Head). x .row) z;
+        reads = reads ∙ ap accepted (t .same ∙ ap (front s) n);
+        fits = rw n at (t .fits);
+        head = z ∙ ap (λ (k : ℕ). head-of (front s k)) n;
+      }
+
+  module _ (a : OptionAnswer) (told : option-said a ≡ given head-of (one-option text s)) where
+    -- where the code has the option's head
+    pub found : (hd : OptionHead) → a ≡ option.Good hd → Found text s (head-said hd)
+    found hd e = found-head (head-said hd) (sym (ap option-said e) ∙ told)
+
+    -- where the code has its refusal
+    pub not-found : (q : code.Refusal) → a ≡ option.Refused q → one-option text s ≡ refused (said q)
+    not-found q e = given-refused head-of (one-option text s) (said q) (sym (ap option-said e) ∙ told)
+
+    -- the option's bytes
+    pub bytes-found : (hd : OptionHead) → a ≡ option.Good hd → take (hd .size - 3) (drop 3 s) ≡ part (given body-of (one-option text s))
+    unfolding given
+    bytes-found hd e = rw (found hd e .reads)
+
+    pub bytes-refused : (q : code.Refusal) → a ≡ option.Refused q → [] ≡ part (given body-of (one-option text s))
+    unfolding given
+    bytes-refused q e = rw (not-found q e)
+
+-- ---- the string, scanned after all else
+
+rescan : (v t u : Verdict) (f : Frame) (k : Frame → Answer Frame) → u ≡ pass → k f ≡ (t >> accepted f) → ((v >> t) >> accepted f) ≡ (((v >> u) >> accepted f) >>= k)
+unfolding _>>_ _>>=_
+rescan (accepted x) t u f k e w = rw (e, w)
+rescan (refused r) t u f k e w = refl
+
+rescan-frame : (text : List ℕ → Verdict) (a : Answer Frame) →
+    (a >>= λ f. judge-kind text (f .type) (f .body) >> accepted f)
+    ≡ ((a >>= λ f. judge-kind unscanned (f .type) (f .body) >> accepted f) >>= λ f. judge-text text (kind-of (f .type)) (f .body) >> accepted f)
+unfolding _>>=_ judge-kind
+rescan-frame text (accepted f) =
+    rescan (judge-length (row-of (f .type) .len) (f .body)) (judge-text text (kind-of (f .type)) (f .body)) (judge-text unscanned (kind-of (f .type)) (f .body)) f
+    (λ g. judge-text text (kind-of (g .type)) (g .body) >> accepted g) (no-scan (kind-of (f .type)) (f .body)) refl
+rescan-frame text (refused r) = refl
+
+pub rescanned : (text : List ℕ → Verdict) (s : List ℕ) → one-option text s ≡ (one-option unscanned s >>= λ f. judge-text text (kind-of (f .type)) (f .body) >> accepted f)
+unfolding one-option
+rescanned text s = rescan-frame text (frame s)
+
+-- the string: all bytes after the first
+pub string-place : (s : List ℕ) (k : ℕ) → 4 ≤ k → drop 1 (body-at s (k - 3)) ≡ take (k - 4) (drop 4 s)
+string-place s k h =
+    let e : k - 3 ≡ suc (k - 4) = omega arith in
+    ap (λ (n : ℕ). drop 1 (body-at s n)) e ∙ past-first (k - 4) (drop 3 s) ∙ ap (take (k - 4)) (drop-drop 1 3 s)
+  where
+    past-first : (n : ℕ) (l : List ℕ) → drop 1 (take (suc n) l) ≡ take n (drop 1 l)
+    past-first n [] = sym (take-nil n)
+    past-first n (x ∷ l) = refl
+
+-- the kinds without a string, and the one with it
+abbrev pub with-no-string : List ℕ
+with-no-string = 1 ∷ 2 ∷ 3 ∷ 4 ∷ 5 ∷ 6 ∷ 7 ∷ 8 ∷ []
+
+module _ (text : List ℕ → Verdict) where
+  string-arms : (k : OptionKind) (body : List ℕ) →
+      (k ≡ kind.Configuration → judge-text text (row-said k .kind) body ≡ text (drop 1 body))
+      × (OneOf with-no-string (tag k) → judge-text text (row-said k .kind) body ≡ pass)
+  unfolding judge-text row-of row-in kinds
+  string-arms kind.Configuration body = ((λ e. refl), (λ o. absurd (miss with-no-string 0 tt o)))
+  string-arms kind.LoadBalancing body = ((λ e. clash cc), (λ o. refl))
+  string-arms kind.Ipv4Endpoint body = ((λ e. clash cc), (λ o. refl))
+  string-arms kind.Ipv4Multicast body = ((λ e. clash cc), (λ o. refl))
+  string-arms kind.Ipv4SdEndpoint body = ((λ e. clash cc), (λ o. refl))
+  string-arms kind.Ipv6Endpoint body = ((λ e. clash cc), (λ o. refl))
+  string-arms kind.Ipv6Multicast body = ((λ e. clash cc), (λ o. refl))
+  string-arms kind.Ipv6SdEndpoint body = ((λ e. clash cc), (λ o. refl))
+  string-arms (kind.Unknown t) body = ((λ e. clash cc), (λ o. refl))
+
+module _ (s : List ℕ) (a : OptionAnswer) (told : option-said a ≡ given head-of (one-option unscanned s)) where
+  pub scan-refuses : (q : code.Refusal) → a ≡ option.Refused q → option-said a ≡ given head-of (read-option s)
+  unfolding given _>>=_
+  scan-refuses q e = rw (rescanned scanned s, not-found unscanned s a told q e, e)
+
+  module _ (hd : OptionHead) (e : a ≡ option.Good hd) where
+    abbrev string-judged : Verdict
+    string-judged = judge-text scanned (row-said (hd .kind) .kind) (body-at s (hd .size - 3))
+
+    scans : read-option s ≡ (string-judged >> accepted (front s (hd .size - 3)))
+    unfolding _>>=_
+    scans = let t = found unscanned s a told hd e in rescanned scanned s ∙ rw (t .reads, t .row)
+
+    scan-passes : string-judged ≡ pass → accepted (head-said hd) ≡ given head-of (read-option s)
+    unfolding _>>_
+    scan-passes v = let t = found unscanned s a told hd e in sym (ap option-said e) ∙ told ∙ ap (given head-of) (t .reads ∙ sym (scans ∙ rw v))
+
+    pub no-string : OneOf with-no-string (tag (hd .kind)) → accepted (head-said hd) ≡ given head-of (read-option s)
+    no-string o = scan-passes (string-arms scanned (hd .kind) (body-at s (hd .size - 3)) .1 o)
+
+    module _ (is : hd .kind ≡ kind.Configuration) (str : StringAnswer) (checked : answered str ≡ scanned (take (hd .size - 4) (drop 4 s))) where
+      judged : string-judged ≡ answered str
+      judged = string-arms scanned (hd .kind) (body-at s (hd .size - 3)) .0 is ∙ ap scanned (string-place s (hd .size) (found unscanned s a told hd e .some)) ∙ sym checked
+
+      pub string-valid : str ≡ string.Valid → accepted (head-said hd) ≡ given head-of (read-option s)
+      string-valid v = scan-passes (judged ∙ ap answered v)
+
+      pub string-refused : (error : StringError) (r : code.Refusal) → str ≡ string.Refused error → r ≡ string-refusal str → refused (said r) ≡ given head-of (read-option s)
+      unfolding given _>>_
+      string-refused error r v z = rw (scans, judged, z, v)

@@ -9,7 +9,9 @@ use Rattle.sd_format.specs.Frames.{Frame, size}
 use Rattle.sd_format.specs.Fields.{discardable}
 use Rattle.refusal.specs.Said.{said}
 use Rattle.refusal.specs.declared.Refusal.{Refusal}
-use Rattle.refusal.specs.declared.Refusal.the-variants.{NothingThere}
+use Rattle.refusal.specs.declared.Refusal.the-variants.{NothingThere, ConfigurationString}
+use Rattle.config_string.specs.declared.StringAnswer.{StringAnswer}
+use Rattle.config_string.specs.declared.StringAnswer.the-variants as string
 use Rattle.sd_option.specs.Kinds.{row-said}
 use Rattle.sd_option.specs.declared.reading.OptionHead.{OptionHead}
 use Rattle.sd_option.specs.declared.reading.OptionAnswer.{OptionAnswer}
@@ -54,6 +56,10 @@ part (refused r) = []
 abbrev pub length-refusal : LengthAnswer → Refusal
 length-refusal (len.Good n) = NothingThere
 length-refusal (len.Refused r) = r
+
+abbrev pub string-refusal : StringAnswer → Refusal
+string-refusal string.Valid = NothingThere
+string-refusal (string.Refused error) = ConfigurationString error
 
 abbrev pub option-refusal : OptionAnswer → Refusal
 option-refusal (option.Good h) = NothingThere

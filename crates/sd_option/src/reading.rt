@@ -5,15 +5,17 @@ ghost use mathlib.Core.List.{List};
 ghost use lib.ListN.{length};
 ghost use Rattle.numbers.specs.Answers.{given};
 ghost use Rattle.sd_format.specs.Kinds.{unscanned};
-ghost use Rattle.sd_format.specs.Frames.{frame, one-option};
+ghost use Rattle.sd_format.specs.Frames.{frame, one-option, read-option};
 ghost use Rattle.sd_option.specs.Kinds.{row-said};
-ghost use Rattle.sd_option.specs.Reading.{length-said, length-judged, length-refusal, body-length, option-said, head-of};
+ghost use Rattle.sd_option.specs.Reading.{length-said, length-judged, length-refusal, string-refusal, body-length, body-of, part, option-said, head-of};
 use crate::bytes::be16;
 use crate::bytes::is_discardable;
 use crate::kinds::KindLength;
 use crate::kinds::OptionKind;
 use crate::kinds::kind_of;
 use crate::kinds::row_of;
+use config_string::StringAnswer;
+use config_string::check_string;
 use refusal::LengthSource;
 use refusal::Refusal;
 
@@ -111,4 +113,58 @@ pub fn read_option_unscanned(s: &[u8]) -> OptionAnswer
         discardable,
         size: 3 + length,
     })
+}
+
+// Why a string was refused.
+fn string_refusal(answer: StringAnswer) -> Refusal
+    ensures { λ r. ⌜ r ≡ string-refusal answer ⌝ }
+{
+    match answer {
+        StringAnswer::Valid => Refusal::NothingThere,
+        StringAnswer::Refused(error) => Refusal::ConfigurationString(error),
+    }
+}
+
+// One option in front of `s`.
+pub fn read_option(s: &[u8]) -> OptionAnswer
+    ensures { λ r. ⌜ option-said r ≡ given head-of (read-option (now (s .entry))) ⌝ }
+{
+    let answer = read_option_unscanned(s);
+    let OptionAnswer::Good(head) = answer else {
+        return answer;
+    };
+    let kind = head.kind;
+    let OptionKind::Configuration = kind else {
+        return answer;
+    };
+    let size = head.size;
+    let string = check_string(&s[4..size]);
+    let StringAnswer::Valid = string else {
+        return OptionAnswer::Refused(string_refusal(string));
+    };
+    answer
+}
+
+// The bytes after the type of the option in front of `s`, its configuration string not scanned; none where it is refused.
+pub fn option_bytes_unscanned(s: &[u8]) -> &[u8]
+    ensures { λ r. ⌜ now r ≡ part (given body-of (one-option unscanned (now (s .entry)))) ⌝ }
+{
+    let answer = read_option_unscanned(s);
+    let OptionAnswer::Good(head) = answer else {
+        return &s[0..0];
+    };
+    let size = head.size;
+    &s[3..size]
+}
+
+// The bytes after the type of the option in front of `s`; none where it is refused.
+pub fn option_bytes(s: &[u8]) -> &[u8]
+    ensures { λ r. ⌜ now r ≡ part (given body-of (read-option (now (s .entry)))) ⌝ }
+{
+    let answer = read_option(s);
+    let OptionAnswer::Good(head) = answer else {
+        return &s[0..0];
+    };
+    let size = head.size;
+    &s[3..size]
 }
