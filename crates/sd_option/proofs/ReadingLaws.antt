@@ -1,0 +1,336 @@
+-- The reading of one option, test by test: what each refusal and what the acceptance says of the definitions. Assumes nothing.
+use mathlib.Core.Path.{_≡_, refl, sym, ap, _∙_, subst}
+use mathlib.Core.Logic.{_≢_}
+use mathlib.Core.Bool.{Bool, true, false, not, cond}
+use mathlib.Core.List.{List, [], _∷_}
+use Prim.Native.Nat.{ℕ, suc, _+_, _*_, _-_, _≤_, _<_}
+use native.Mathlib.Omega.{arith}
+use lib.ListN.{length, take, drop, getD, length-drop}
+use lib.Seq.{length-take-le, getD-take, getD-drop, drop-drop, take-nil}
+use lib.Dec.{ltb, eqb}
+use types.Run.{OneOf, miss}
+use borrow.Author.Tests.{lt-ltb, le-ltb, eq-eqb, ne-eqb, ltb-false, eqb-false}
+use Rattle.numbers.specs.Refusals.{Refusal, option-length, option-length-zero}
+use Rattle.numbers.specs.Answers.{Answer, accepted, refused, Verdict, pass, _>>=_, _>>_, refuse_when_else_, given}
+use Rattle.numbers.specs.Bytes.{at16}
+use Rattle.numbers.proofs.AnswerLaws.{not-refused, accepted-inj, when-accepted, bind-accepted, then-accepted}
+use Rattle.sd_format.specs.Options.{has}
+use Rattle.sd_format.specs.Kinds.{Kind, configuration, load-balancing, address, unknown, Length, exactly, one-or-more, Row, row-of, kind-of, judge-length, row-in, kinds, judge-text, judge-kind, scanned, unscanned}
+use Rattle.sd_format.specs.Frames.{Frame, size, frame, one-option, read-option}
+use Rattle.sd_format.specs.Fields.{discardable}
+use Rattle.refusal.specs.declared.StringError.{StringError}
+use Rattle.refusal.specs.declared.Refusal as code
+use Rattle.config_string.specs.declared.StringAnswer.{StringAnswer}
+use Rattle.config_string.specs.declared.StringAnswer.the-variants as string
+use Rattle.config_string.specs.Answered.{answered}
+use Rattle.sd_option.specs.declared.kinds.OptionKind.{OptionKind}
+use Rattle.sd_option.specs.declared.kinds.OptionKind.the-variants as kind
+use Rattle.sd_option.specs.Kinds.{row-said}
+use Rattle.sd_option.proofs.KindLaws.{tag}
+use Rattle.refusal.specs.Said.{said}
+use Rattle.sd_option.specs.declared.reading.OptionHead.{OptionHead}
+use Rattle.sd_option.specs.declared.reading.OptionAnswer.{OptionAnswer}
+use Rattle.sd_option.specs.declared.reading.OptionAnswer.the-variants as option
+use Rattle.sd_option.specs.declared.reading.LengthAnswer.{LengthAnswer}
+use Rattle.sd_option.specs.declared.reading.LengthAnswer.the-variants as len
+use Rattle.sd_option.specs.Reading.{Head, head-of, head-said, option-said, part, body-of, body-length, length-judged, length-said, length-refusal, string-refusal}
+
+-- two cases that are never one
+clash : {X : Type 0} → _≡_ {A = ℕ} 0 1 → X
+clash z = absurd (omega arith)
+
+-- ---- what was accepted, in another form
+
+pub given-accepted : {A B : Type 0} (f : A → B) (a : Answer A) (y : B) → accepted y ≡ given f a → (x : A) × (a ≡ accepted x) × (y ≡ f x)
+unfolding given
+given-accepted f (accepted x) y e = (x, refl, accepted-inj y (f x) e)
+given-accepted f (refused r) y e = not-refused r y (sym e)
+
+pub given-refused : {A B : Type 0} (f : A → B) (a : Answer A) (r : Refusal) → refused r ≡ given f a → a ≡ refused r
+unfolding given
+given-refused f (accepted x) r e = not-refused r (f x) e
+given-refused f (refused q) r e = let z : r ≡ q = cc in rw z
+
+-- ---- the frame
+
+-- the frame of `n` bytes after the type
+abbrev pub front : List ℕ → ℕ → Frame
+front s n = record { type = getD s 2 0; body = take n (drop 3 s) }
+
+pub record Framed (s : List ℕ) (n : ℕ) : Type 0 where
+  pub some : 1 ≤ n
+  pub within : 3 + n ≤ length s
+  pub reads : frame s ≡ accepted (front s n)
+
+pub front-length : (s : List ℕ) (n : ℕ) → 3 + n ≤ length s → length (take n (drop 3 s)) ≡ n
+front-length s n h = length-take-le n (drop 3 s) (rw length-drop (omega arith))
+
+pub frame-short : (s : List ℕ) → length s < 3 → refused (option-length 3 (length s) 0) ≡ given body-length (frame s)
+unfolding frame refuse_when_else_ given
+frame-short s h = rw (lt-ltb (length s) 3 h)
+
+-- with the length that its first two bytes give
+module _ (s : List ℕ) (n : ℕ) (e : n ≡ getD s 0 0 * 256 + getD s 1 0) (h : 3 ≤ length s) where
+  word : at16 s 0 ≡ n
+  unfolding at16
+  word = sym e
+
+  pub frame-zero : n ≡ 0 → refused option-length-zero ≡ given body-length (frame s)
+  unfolding frame refuse_when_else_ given
+  frame-zero z = rw (le-ltb (length s) 3 h, word, eq-eqb n 0 z)
+
+  pub frame-long : n ≢ 0 → length s < 3 + n → refused (option-length (3 + n) (length s) 0) ≡ given body-length (frame s)
+  unfolding frame refuse_when_else_ given
+  frame-long p l = rw (le-ltb (length s) 3 h, word, ne-eqb n 0 p, lt-ltb (length s) (3 + n) l)
+
+  framed : n ≢ 0 → 3 + n ≤ length s → frame s ≡ accepted (front s n)
+  unfolding frame refuse_when_else_
+  framed p l = rw (le-ltb (length s) 3 h, word, ne-eqb n 0 p, le-ltb (length s) (3 + n) l)
+
+  pub frame-good : n ≢ 0 → 3 + n ≤ length s → accepted n ≡ given body-length (frame s)
+  unfolding given
+  frame-good p l = rw (framed p l, front-length s n l)
+
+-- what its acceptance says
+frame-tests : (s : List ℕ) (f : Frame) → frame s ≡ accepted f → Framed s (at16 s 0) × (f ≡ front s (at16 s 0))
+unfolding frame
+frame-tests s f e =
+    let a = when-accepted _ (ltb (length s) 3) _ f e in
+    let b = when-accepted _ (eqb (at16 s 0) 0) _ f (a .1) in
+    let d = when-accepted _ (ltb (length s) (3 + at16 s 0)) _ f (b .1) in
+    let w : 3 + at16 s 0 ≤ length s = ltb-false (length s) (3 + at16 s 0) (d .0) in
+    let p : at16 s 0 ≢ 0 = eqb-false (at16 s 0) 0 (b .0) in
+    let same : front s (at16 s 0) ≡ f = accepted-inj (front s (at16 s 0)) f (d .1) in
+    (record { some = omega arith; within = w; reads = e ∙ ap accepted (sym same) }, sym same)
+
+pub frame-accepted : (s : List ℕ) (n : ℕ) → accepted n ≡ given body-length (frame s) → Framed s n
+frame-accepted s n e =
+    let (f, reads, len) = given-accepted body-length (frame s) n e in
+    let (t, same) = frame-tests s f reads in
+    let m : at16 s 0 ≡ n = sym (len ∙ ap body-length same ∙ front-length s (at16 s 0) (t .within)) in
+    subst (λ (k : ℕ). Framed s k) m t
+
+-- ---- the kind's length
+
+module _ (had : ℕ) (body : List ℕ) (e : length body ≡ had) where
+  pub any-length : (asks : Length) → asks ≡ one-or-more → accepted had ≡ length-judged asks body
+  unfolding judge-length _>>_
+  any-length asks z = rw (z, e)
+
+  pub same-length : (asks : Length) (n : ℕ) → asks ≡ exactly n → had ≡ n → accepted had ≡ length-judged asks body
+  unfolding judge-length _>>_ refuse_when_else_
+  same-length asks n z w = rw (z, e, eq-eqb had n w)
+
+  pub other-length : (asks : Length) (n : ℕ) → asks ≡ exactly n → had ≢ n → refused (option-length n had 1) ≡ length-judged asks body
+  unfolding judge-length _>>_ refuse_when_else_
+  other-length asks n z w = rw (z, e, ne-eqb had n w)
+
+-- ---- one option
+
+abbrev pub body-at : List ℕ → ℕ → List ℕ
+body-at s n = take n (drop 3 s)
+
+-- lookup scans no string
+pub no-scan : (k : Kind) (body : List ℕ) → judge-text unscanned k body ≡ pass
+unfolding judge-text
+no-scan configuration body = refl
+no-scan load-balancing body = refl
+no-scan (address family role) body = refl
+no-scan unknown body = refl
+
+after-frame : (text : List ℕ → Verdict) (s : List ℕ) (n : ℕ) → Framed s n → one-option text s ≡ (judge-kind text (getD s 2 0) (body-at s n) >> accepted (front s n))
+unfolding one-option _>>=_
+after-frame text s n t = rw (t .reads)
+
+pub frame-refuses : (s : List ℕ) (a : LengthAnswer) (q r : code.Refusal) → length-said a ≡ given body-length (frame s) → a ≡ len.Refused q → r ≡ length-refusal a → refused (said r) ≡ given head-of (one-option unscanned s)
+unfolding one-option _>>=_ given
+frame-refuses s a q r told e w =
+    let f : frame s ≡ refused (said q) = given-refused body-length (frame s) (said q) (sym (ap length-said e) ∙ told) in
+    rw (f, w, e)
+
+then-refused : {A B : Type 0} (v : Verdict) (x : A) (r : Refusal) → refused r ≡ (v >> accepted x) → (b : Answer B) → (v >> b) ≡ refused r
+unfolding _>>_
+then-refused (accepted u) x r e b = not-refused r x e
+then-refused (refused q) x r e b = let z : r ≡ q = cc in rw z
+
+then-then : {A : Type 0} (v w : Verdict) (a : Answer A) → ((v >> w) >> a) ≡ (v >> (w >> a))
+unfolding _>>_
+then-then (accepted u) w a = refl
+then-then (refused q) w a = refl
+
+-- what is told of the frame of `n` bytes
+pub front-head : (s : List ℕ) (n : ℕ) → 1 ≤ n → 3 + n ≤ length s → head-of (front s n) ≡ record { row = row-of (getD s 2 0); discardable = has (getD s 3 0) 0x80; size = 3 + n }
+front-head s n some within =
+    let b : getD (take n (drop 3 s)) 0 0 ≡ getD s 3 0 = getD-take n (drop 3 s) 0 0 some ∙ getD-drop 3 s 0 0 in
+    rw (b, front-length s n within)
+
+pub frame-told : (s : List ℕ) (a : LengthAnswer) (n : ℕ) → length-said a ≡ given body-length (frame s) → a ≡ len.Good n → Framed s n
+frame-told s a n told e = frame-accepted s n (sym (ap length-said e) ∙ told)
+
+-- after its frame: its kind's length, then its string
+module _ (s : List ℕ) (n : ℕ) (t : Framed s n) (w : Row) (same : w ≡ row-of (getD s 2 0)) where
+  in-order : (text : List ℕ → Verdict) → one-option text s ≡ (judge-length (w .len) (body-at s n) >> (judge-text text (w .kind) (body-at s n) >> accepted (front s n)))
+  unfolding judge-kind
+  in-order text = after-frame text s n t ∙ then-then (judge-length (row-of (getD s 2 0) .len) (body-at s n)) (judge-text text (kind-of (getD s 2 0)) (body-at s n)) (accepted (front s n)) ∙ rw same
+
+  module _ (a : LengthAnswer) (judged : (body : List ℕ) → length body ≡ n → length-said a ≡ length-judged (w .len) body) where
+    told : length-said a ≡ length-judged (w .len) (body-at s n)
+    told = judged (body-at s n) (front-length s n (t .within))
+
+    pub kind-refuses : (q r : code.Refusal) → a ≡ len.Refused q → r ≡ length-refusal a → refused (said r) ≡ given head-of (one-option unscanned s)
+    unfolding given
+    kind-refuses q r e z =
+        let f = then-refused (judge-length (w .len) (body-at s n)) (length (body-at s n)) (said q) (sym (ap length-said e) ∙ told) (judge-text unscanned (w .kind) (body-at s n) >> accepted (front s n)) in
+        rw (in-order unscanned, f, z, e)
+
+    kind-accepts : (m : ℕ) → a ≡ len.Good m → one-option unscanned s ≡ accepted (front s n)
+    unfolding _>>_
+    kind-accepts m e =
+        let f = then-accepted (judge-length (w .len) (body-at s n)) (accepted (length (body-at s n))) m (sym (sym (ap length-said e) ∙ told)) in
+        in-order unscanned ∙ rw (f .0, no-scan (w .kind) (body-at s n))
+
+    pub head-told : (m : ℕ) → a ≡ len.Good m → (d : Bool) → d ≡ has (getD s 3 0) 0x80 → accepted (record { row = w; discardable = d; size = 3 + n }) ≡ given head-of (one-option unscanned s)
+    unfolding given
+    head-told m e d bit = rw (kind-accepts m e, front-head s n (t .some) (t .within), same, bit)
+
+-- ---- what the acceptance of an option says, whatever judges its string
+
+pub record Stands (s : List ℕ) (n : ℕ) (f : Frame) : Type 0 where
+  pub framed : Framed s n
+  pub same : f ≡ front s n
+  pub fits : judge-length (row-of (getD s 2 0) .len) (body-at s n) ≡ pass
+
+-- the option whose head was told
+pub record Found (text : List ℕ → Verdict) (s : List ℕ) (h : Head) : Type 0 where
+  pub some : 4 ≤ h .size
+  pub within : h .size ≤ length s
+  pub row : h .row ≡ row-of (getD s 2 0)
+  pub reads : one-option text s ≡ accepted (front s (h .size - 3))
+  pub fits : judge-length (row-of (getD s 2 0) .len) (body-at s (h .size - 3)) ≡ pass
+  pub head : h ≡ head-of (front s (h .size - 3))
+
+module _ (text : List ℕ → Verdict) (s : List ℕ) where
+  pub read-stands : (f : Frame) → one-option text s ≡ accepted f → Stands s (at16 s 0) f
+  unfolding one-option judge-kind
+  read-stands f e =
+      let (g, framed, rest) = bind-accepted (frame s) _ f e in
+      let (judged, kept) = then-accepted (judge-kind text (g .type) (g .body)) (accepted g) f rest in
+      let (t, same) = frame-tests s g framed in
+      let fits = then-accepted (judge-length (row-of (g .type) .len) (g .body)) (judge-text text (kind-of (g .type)) (g .body)) tt judged .0 in
+      record { framed = t; same = sym (accepted-inj g f kept) ∙ same; fits = rw same at fits }
+
+  found-head : (h : Head) → accepted h ≡ given head-of (one-option text s) → Found text s h
+  found-head h e =
+      let (f, reads, told) = given-accepted head-of (one-option text s) h e in
+      let t = read-stands f reads in
+      let w = t .framed .within in
+      let some = t .framed .some in
+      let z : h ≡ head-of (front s (at16 s 0)) = told ∙ ap head-of (t .same) in
+      let long : h .size ≡ 3 + at16 s 0 = ap (λ (x : Head). x .size) z ∙ ap (λ (k : ℕ). 3 + k) (front-length s (at16 s 0) w) in
+      let n : at16 s 0 ≡ h .size - 3 = omega arith in
+      record {
+        some = omega arith;
+        within = omega arith;
+        row = ap (λ (x : Head). x .row) z;
+        reads = reads ∙ ap accepted (t .same ∙ ap (front s) n);
+        fits = rw n at (t .fits);
+        head = z ∙ ap (λ (k : ℕ). head-of (front s k)) n;
+      }
+
+  module _ (a : OptionAnswer) (told : option-said a ≡ given head-of (one-option text s)) where
+    -- where the code has the option's head
+    pub found : (hd : OptionHead) → a ≡ option.Good hd → Found text s (head-said hd)
+    found hd e = found-head (head-said hd) (sym (ap option-said e) ∙ told)
+
+    -- where the code has its refusal
+    pub not-found : (q : code.Refusal) → a ≡ option.Refused q → one-option text s ≡ refused (said q)
+    not-found q e = given-refused head-of (one-option text s) (said q) (sym (ap option-said e) ∙ told)
+
+    -- the option's bytes
+    pub bytes-found : (hd : OptionHead) → a ≡ option.Good hd → take (hd .size - 3) (drop 3 s) ≡ part (given body-of (one-option text s))
+    unfolding given
+    bytes-found hd e = rw (found hd e .reads)
+
+    pub bytes-refused : (q : code.Refusal) → a ≡ option.Refused q → [] ≡ part (given body-of (one-option text s))
+    unfolding given
+    bytes-refused q e = rw (not-found q e)
+
+-- ---- the string, scanned after all else
+
+rescan : (v t u : Verdict) (f : Frame) (k : Frame → Answer Frame) → u ≡ pass → k f ≡ (t >> accepted f) → ((v >> t) >> accepted f) ≡ (((v >> u) >> accepted f) >>= k)
+unfolding _>>_ _>>=_
+rescan (accepted x) t u f k e w = rw (e, w)
+rescan (refused r) t u f k e w = refl
+
+rescan-frame : (text : List ℕ → Verdict) (a : Answer Frame) →
+    (a >>= λ f. judge-kind text (f .type) (f .body) >> accepted f)
+    ≡ ((a >>= λ f. judge-kind unscanned (f .type) (f .body) >> accepted f) >>= λ f. judge-text text (kind-of (f .type)) (f .body) >> accepted f)
+unfolding _>>=_ judge-kind
+rescan-frame text (accepted f) =
+    rescan (judge-length (row-of (f .type) .len) (f .body)) (judge-text text (kind-of (f .type)) (f .body)) (judge-text unscanned (kind-of (f .type)) (f .body)) f
+    (λ g. judge-text text (kind-of (g .type)) (g .body) >> accepted g) (no-scan (kind-of (f .type)) (f .body)) refl
+rescan-frame text (refused r) = refl
+
+pub rescanned : (text : List ℕ → Verdict) (s : List ℕ) → one-option text s ≡ (one-option unscanned s >>= λ f. judge-text text (kind-of (f .type)) (f .body) >> accepted f)
+unfolding one-option
+rescanned text s = rescan-frame text (frame s)
+
+-- the string: all bytes after the first
+pub string-place : (s : List ℕ) (k : ℕ) → 4 ≤ k → drop 1 (body-at s (k - 3)) ≡ take (k - 4) (drop 4 s)
+string-place s k h =
+    let e : k - 3 ≡ suc (k - 4) = omega arith in
+    ap (λ (n : ℕ). drop 1 (body-at s n)) e ∙ past-first (k - 4) (drop 3 s) ∙ ap (take (k - 4)) (drop-drop 1 3 s)
+  where
+    past-first : (n : ℕ) (l : List ℕ) → drop 1 (take (suc n) l) ≡ take n (drop 1 l)
+    past-first n [] = sym (take-nil n)
+    past-first n (x ∷ l) = refl
+
+-- the kinds without a string, and the one with it
+abbrev pub with-no-string : List ℕ
+with-no-string = 1 ∷ 2 ∷ 3 ∷ 4 ∷ 5 ∷ 6 ∷ 7 ∷ 8 ∷ []
+
+module _ (text : List ℕ → Verdict) where
+  string-arms : (k : OptionKind) (body : List ℕ) →
+      (k ≡ kind.Configuration → judge-text text (row-said k .kind) body ≡ text (drop 1 body))
+      × (OneOf with-no-string (tag k) → judge-text text (row-said k .kind) body ≡ pass)
+  unfolding judge-text row-of row-in kinds
+  string-arms kind.Configuration body = ((λ e. refl), (λ o. absurd (miss with-no-string 0 tt o)))
+  string-arms kind.LoadBalancing body = ((λ e. clash cc), (λ o. refl))
+  string-arms kind.Ipv4Endpoint body = ((λ e. clash cc), (λ o. refl))
+  string-arms kind.Ipv4Multicast body = ((λ e. clash cc), (λ o. refl))
+  string-arms kind.Ipv4SdEndpoint body = ((λ e. clash cc), (λ o. refl))
+  string-arms kind.Ipv6Endpoint body = ((λ e. clash cc), (λ o. refl))
+  string-arms kind.Ipv6Multicast body = ((λ e. clash cc), (λ o. refl))
+  string-arms kind.Ipv6SdEndpoint body = ((λ e. clash cc), (λ o. refl))
+  string-arms (kind.Unknown t) body = ((λ e. clash cc), (λ o. refl))
+
+module _ (s : List ℕ) (a : OptionAnswer) (told : option-said a ≡ given head-of (one-option unscanned s)) where
+  pub scan-refuses : (q : code.Refusal) → a ≡ option.Refused q → option-said a ≡ given head-of (read-option s)
+  unfolding given _>>=_
+  scan-refuses q e = rw (rescanned scanned s, not-found unscanned s a told q e, e)
+
+  module _ (hd : OptionHead) (e : a ≡ option.Good hd) where
+    abbrev string-judged : Verdict
+    string-judged = judge-text scanned (row-said (hd .kind) .kind) (body-at s (hd .size - 3))
+
+    scans : read-option s ≡ (string-judged >> accepted (front s (hd .size - 3)))
+    unfolding _>>=_
+    scans = let t = found unscanned s a told hd e in rescanned scanned s ∙ rw (t .reads, t .row)
+
+    scan-passes : string-judged ≡ pass → accepted (head-said hd) ≡ given head-of (read-option s)
+    unfolding _>>_
+    scan-passes v = let t = found unscanned s a told hd e in sym (ap option-said e) ∙ told ∙ ap (given head-of) (t .reads ∙ sym (scans ∙ rw v))
+
+    pub no-string : OneOf with-no-string (tag (hd .kind)) → accepted (head-said hd) ≡ given head-of (read-option s)
+    no-string o = scan-passes (string-arms scanned (hd .kind) (body-at s (hd .size - 3)) .1 o)
+
+    module _ (is : hd .kind ≡ kind.Configuration) (str : StringAnswer) (checked : answered str ≡ scanned (take (hd .size - 4) (drop 4 s))) where
+      judged : string-judged ≡ answered str
+      judged = string-arms scanned (hd .kind) (body-at s (hd .size - 3)) .0 is ∙ ap scanned (string-place s (hd .size) (found unscanned s a told hd e .some)) ∙ sym checked
+
+      pub string-valid : str ≡ string.Valid → accepted (head-said hd) ≡ given head-of (read-option s)
+      string-valid v = scan-passes (judged ∙ ap answered v)
+
+      pub string-refused : (error : StringError) (r : code.Refusal) → str ≡ string.Refused error → r ≡ string-refusal str → refused (said r) ≡ given head-of (read-option s)
+      unfolding given _>>_
+      string-refused error r v z = rw (scans, judged, z, v)
