@@ -1,6 +1,7 @@
 -- `sd_entry::runs::judge_entry` meets its contract: the length, the type by its ranges, then the runs. Assumes nothing.
 use mathlib.Core.Path.{sym}
 use mathlib.Core.Logic.{inl, inr, ⊎-elim}
+use native.Mathlib.Omega.{arith}
 use borrow.Author.Needs.{needs}
 use Rattle.sd_entry.proofs.Laws.{read-short, read-unknown, placed-refused, placed-judged}
 use Rattle.sd_entry.proofs.runs.judge_entry.Statement.{statement}
@@ -31,14 +32,14 @@ returns-2 c =
     let typed = c .before .before .before in
     let start = typed .before .before in
     let s = start .args .s .now in
-    sym (placed-refused (start .args .options) s _ (read-unknown s (typed .if1 .left) (c .before .if2 .left) (inl (c .if3 .taken))))
+    sym (placed-refused (start .args .options) s _ (read-unknown s (typed .if1 .left) (omega arith) (inl (c .if3 .taken))))
 
 returns-3 : tie.Need-returns-3
 returns-3 c =
     let typed = c .before .before .before .before in
     let start = typed .before .before in
     let s = start .args .s .now in
-    sym (placed-refused (start .args .options) s _ (read-unknown s (typed .if1 .left) (c .before .before .if2 .left) (inr (c .if4 .left))))
+    sym (placed-refused (start .args .options) s _ (read-unknown s (typed .if1 .left) (omega arith) (inr (c .if4 .left))))
 
 returns-4 : tie.Need-returns-4
 returns-4 c =
@@ -46,7 +47,7 @@ returns-4 c =
     let typed = known .before .before in
     let start = typed .before .before in
     placed-judged (start .args .options) (start .args .s .now) (typed .if1 .left)
-    (⊎-elim (λ w. inl (w .taken)) (λ w. inr (w .1 .left, w .2 .taken)) (known .if2 .came)) (c .judge-pair .ensures)
+    (⊎-elim (λ w. inl (omega arith)) (λ w. inr (omega arith, omega arith)) (known .if2 .came)) (c .judge-pair .ensures)
 
 pub judge-entry-spec : {M : Type 1} → statement M
 judge-entry-spec =
