@@ -46,6 +46,11 @@ module _ {A B : Type 0} where
   given-accepted f (accepted x) y e = (x, refl, accepted-inj (f x) y e)
   given-accepted f (refused r) y e = not-refused r y e
 
+  pub given-refused : (f : A → B) (m : Answer A) (r : Refusal) → given f m ≡ refused r → m ≡ refused r
+  unfolding given
+  given-refused f (accepted x) r e = not-refused r (f x) (sym e)
+  given-refused f (refused q) r e = ap refused (refused-inj {A = B} q r e)
+
 module _ {B : Type 0} where
   pub then-accepted : (v : Verdict) (a : Answer B) (y : B) → (v >> a) ≡ accepted y → (v ≡ pass) × (a ≡ accepted y)
   unfolding _>>_

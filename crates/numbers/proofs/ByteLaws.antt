@@ -4,12 +4,16 @@ use mathlib.Core.List.{List, [], _∷_, _++_}
 use Prim.Native.Nat.{ℕ, zero, suc, _+_, _*_, _/_, _%_, _-_, _≤_, _<_, zero-le, suc-le-suc}
 use native.Mathlib.Nat.{add-assoc, add-zero, le-of-suc-le-suc, not-suc-le-zero}
 use native.Mathlib.Omega.{arith}
-use lib.ListN.{length, take, drop, getD, take-append-drop}
-use lib.Seq.{getD-drop}
+use lib.ListN.{length, take, drop, getD, length-drop, take-append-drop}
+use lib.Seq.{getD-drop, take-all}
 use Rattle.numbers.specs.Bytes.{Bytes, be16, be24, be32, at16, at24, at32}
 
 pub bytes-drop : (s : List ℕ) (n : ℕ) → Bytes s → Bytes (drop n s)
 bytes-drop s n b i = rw getD-drop (b (n + i))
+
+-- a part from a place on is what is left there
+pub take-rest : (s : List ℕ) (k : ℕ) → take (length s - k) (drop k s) ≡ drop k s
+take-rest s k = take-all (length s - k) (drop k s) (rw length-drop (omega arith))
 
 -- the parts of bytes are bytes
 pub bytes-left : (a b : List ℕ) → Bytes (a ++ b) → Bytes a

@@ -15,12 +15,12 @@ use Rattle.numbers.proofs.ByteLaws.{bytes-drop, be16-at, be32-at, take-tab}
 use Rattle.sd_format.specs.Settings.{Settings}
 use Rattle.sd_format.specs.Options.{Opt}
 use Rattle.sd_format.specs.Kinds.{Kind, configuration, load-balancing, address, unknown, kind-of}
-use Rattle.sd_format.specs.Frames.{Frame, permitted, all-options, read-options, slots, lent, read-index}
+use Rattle.sd_format.specs.Frames.{Frame, permitted, permit, all-options, read-options, slots, lent, read-index}
 use Rattle.sd_format.specs.Fields.{fields}
 use Rattle.sd_format.specs.Layout.{OptionFits, layOptions, wire, Payload, lay, Fits, Header, layHeader}
 use Rattle.sd_format.specs.Payload.{Reading, read-payload, shown, handed-out, header, read-message}
 use Rattle.sd_format.specs.Demand3.{LentExactly, IndexExact, MessageExact}
-use Rattle.sd_format.proofs.OptionLaws.{read-parts, options-lay, options-read, options-own}
+use Rattle.sd_format.proofs.OptionLaws.{read-parts, permits-all, options-lay, options-read, options-own}
 use Rattle.sd_format.proofs.PayloadLaws.{lay-handed}
 use Rattle.sd_format.proofs.Demand3.{demand3}
 
@@ -49,6 +49,15 @@ always unknown body = refl
 all-always : (fs : List Frame) → All (λ f. permitted any-unknown (kind-of (f .type)) (f .body) ≡ true) fs
 all-always [] = tt
 all-always (f ∷ fs) = (always (kind-of (f .type)) (f .body), all-always fs)
+
+-- the options read with the discard setting on are all options
+pub index-reads : (s : List ℕ) → read-options any-unknown s ≡ all-options s
+unfolding read-options _>>=_
+index-reads s = go (all-options s) refl
+  where
+    go : (a : Answer (List Frame)) → all-options s ≡ a → (a >>= λ fs. each (permit any-unknown) fs >> accepted fs) ≡ a
+    go (accepted fs) e = then-pass _ _ (permits-all any-unknown fs .1 (all-always fs))
+    go (refused r) e = refl
 
 pub index-exact : (s : List ℕ) → Bytes s → IndexExact s
 unfolding read-index given refuse_when_else_

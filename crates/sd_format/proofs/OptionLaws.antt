@@ -57,10 +57,10 @@ pub few-options : (s : List ℕ) (fs : List Frame) → all-options s ≡ accepte
 unfolding all-options
 few-options s fs e = all-count read-option size 4 (omega arith) (option-within scanned) s fs e
 
-abbrev Permitted : Settings → Frame → Type 0
+abbrev pub Permitted : Settings → Frame → Type 0
 Permitted g f = permitted g (kind-of (f .type)) (f .body) ≡ true
 
-permits-all : (g : Settings) (fs : List Frame) → (each (permit g) fs ≡ pass) ↔ All (Permitted g) fs
+pub permits-all : (g : Settings) (fs : List Frame) → (each (permit g) fs ≡ pass) ↔ All (Permitted g) fs
 unfolding permit
 permits-all g fs = each-pass (permit g) (Permitted g) (λ f. refuse-pass _ _) fs
 

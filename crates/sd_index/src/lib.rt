@@ -1,0 +1,21 @@
+// The options part of a payload: all options read into a lent table of byte offsets, lookup by an option's number, and the cursors that hand
+// options out. The table is 347 slots of the caller's.
+mod permission;
+mod reading;
+mod slots;
+
+pub use reading::IndexAnswer;
+pub use reading::read_index;
+pub use reading::read_options;
+
+// As many slots as options can be: 1,388 bytes of options of four bytes.
+pub const SLOTS: usize = 347;
+
+// The options length that a payload can have at most.
+pub const MAX_OPTIONS_LEN: usize = 1388;
+
+// The settings of a reading.
+pub struct Settings {
+    // An unknown option is accepted although it may not be discarded.
+    pub discard_unknown_option: bool,
+}
