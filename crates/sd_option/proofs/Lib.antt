@@ -1,3 +1,4 @@
 pub mod KindLaws
 pub mod ReadingLaws
 pub mod FieldLaws
+pub mod PermitLaws
