@@ -46,7 +46,7 @@ module _ (s tab : List ℕ) (count k : ℕ) where
   unfolding look-up slots
   past-table c l h = when-pass _ _ _ (lt-leb count k c) ∙ when-pass _ _ _ (lt-leb 347 k l) ∙ when-hit _ _ _ (le-leb (length tab) k h)
 
-  pub by-slot : k < count → k < 347 → k < length tab → look-up s tab count k ≡ misfit (one-option unscanned (drop (getD tab k 0) s))
+  by-slot : k < count → k < 347 → k < length tab → look-up s tab count k ≡ misfit (one-option unscanned (drop (getD tab k 0) s))
   unfolding look-up slots
   by-slot c l t = when-pass _ _ _ (lt-leb count k c) ∙ when-pass _ _ _ (lt-leb 347 k l) ∙ when-pass _ _ _ (lt-leb (length tab) k t)
 
@@ -57,16 +57,17 @@ module _ (s tab : List ℕ) (count k : ℕ) where
 
 -- ---- the option at a slot's offset, as the unscanned reading of the bytes there has it
 
-module _ (s tab : List ℕ) (count k : ℕ) (slot : look-up s tab count k ≡ misfit (one-option unscanned (drop (getD tab k 0) s)))
-    (bytes : List ℕ) (there : bytes ≡ drop (getD tab k 0) s)
-    (a : OptionAnswer) (told : option-said a ≡ given head-of (one-option unscanned bytes)) where
+module _ (s tab : List ℕ) (count k : ℕ) (counted : k < count) (slot : k < 347) (lent : k < length tab)
+    (bytes : List ℕ) (there : bytes ≡ drop (getD tab k 0) s) (a : OptionAnswer) (told : option-said a ≡ given head-of (one-option unscanned bytes)) where
+  looks-there : look-up s tab count k ≡ misfit (one-option unscanned bytes)
+  looks-there = by-slot s tab count k counted slot lent ∙ sym (ap (λ (b : List ℕ). misfit (one-option unscanned b)) there)
+
   pub told-misfit : (q : code.Refusal) → a ≡ option.Refused q → refused table-misfit ≡ look-up-told s tab count k
   unfolding misfit
-  told-misfit q e = told-refused (located (getD tab k 0)) (slot ∙ ap (λ (b : List ℕ). misfit (one-option unscanned b)) (sym there) ∙ ap misfit (not-found unscanned bytes a told q e))
+  told-misfit q e = told-refused (located (getD tab k 0)) (looks-there ∙ ap misfit (not-found unscanned bytes a told q e))
 
   pub told-found : (hd : OptionHead) → a ≡ option.Good hd → accepted (record { offset = getD tab k 0; head = head-said hd }) ≡ look-up-told s tab count k
   unfolding misfit given
   told-found hd e =
       let t = found unscanned bytes a told hd e in
-      let reads = slot ∙ ap (λ (b : List ℕ). misfit (one-option unscanned b)) (sym there) ∙ ap misfit (t .reads) in
-      ap (λ (h : Head). accepted (record { offset = getD tab k 0; head = h })) (t .head) ∙ sym (ap (given (located (getD tab k 0))) reads)
+      ap (λ (h : Head). accepted (record { offset = getD tab k 0; head = h })) (t .head) ∙ sym (ap (given (located (getD tab k 0))) (looks-there ∙ ap misfit (t .reads)))

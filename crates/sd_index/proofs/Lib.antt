@@ -1,2 +1,4 @@
 pub mod FoundLaws
 pub mod StepLaws
+pub mod OptionPinned
+pub mod OneOutcome

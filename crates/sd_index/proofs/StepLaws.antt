@@ -8,7 +8,7 @@ use lib.ListN.{length, drop, getD, length-drop}
 use borrow.Author.Tests.{le-leb, lt-leb, eq-eqb, ne-eqb}
 use Rattle.numbers.specs.Refusals.{nothing-there}
 use Rattle.numbers.specs.Answers.{Answer, accepted, refused, given}
-use Rattle.numbers.proofs.AnswerLaws.{when-hit, when-pass}
+use Rattle.numbers.proofs.AnswerLaws.{when-hit, when-pass, given-accepted}
 use Rattle.sd_format.specs.Kinds.{scanned}
 use Rattle.sd_format.specs.Sequences.{next-at, behind}
 use Rattle.sd_format.specs.Frames.{size, read-option, look-up, next-option, Run, next-of-run, along}
@@ -16,7 +16,7 @@ use Rattle.sd_option.specs.Reading.{Head, head-of, option-said}
 use Rattle.sd_option.specs.declared.reading.OptionHead.{OptionHead}
 use Rattle.sd_option.specs.declared.reading.OptionAnswer.{OptionAnswer}
 use Rattle.sd_option.specs.declared.reading.OptionAnswer.the-variants as option
-use Rattle.sd_option.proofs.ReadingLaws.{given-accepted, found}
+use Rattle.sd_option.proofs.ReadingLaws.{found}
 use Rattle.sd_index.specs.Found.{Located, located, located-said, found-said, by-table, look-up-told}
 use Rattle.sd_index.specs.Steps.{stands, OptionStepped, run-said, RunStepped}
 use Rattle.sd_index.specs.declared.lookup.Found.{Found}
@@ -96,5 +96,5 @@ module _ (s tab : List ℕ) (count : ℕ) (r : Run) where
 -- the number of an option that was found is below the count
 pub found-below : (s tab : List ℕ) (count k : ℕ) (a : FoundAnswer) (f : Found) → found-said a ≡ look-up-told s tab count k → a ≡ found-answer.Good f → k < count
 found-below s tab count k a f told e =
-    let (frame, reads, same) = given-accepted (located (getD tab k 0)) (look-up s tab count k) (located-said f) (sym (ap found-said e) ∙ told) in
+    let (frame, reads, same) = given-accepted (located (getD tab k 0)) (look-up s tab count k) (located-said f) (sym told ∙ ap found-said e) in
     found-counted s tab count k frame reads

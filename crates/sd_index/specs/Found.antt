@@ -1,9 +1,10 @@
 -- What lookup answers, in the words of the definitions. Assumes nothing: these are definitions.
-use Prim.Native.Nat.{ℕ}
+use Prim.Native.Nat.{ℕ, _+_, _-_}
+use mathlib.Core.Path.{_≡_}
 use mathlib.Core.List.{List}
-use lib.ListN.{getD}
-use Rattle.numbers.specs.Answers.{Answer, accepted, refused, given}
-use Rattle.sd_format.specs.Frames.{Frame, look-up}
+use lib.ListN.{take, drop, getD}
+use Rattle.numbers.specs.Answers.{Answer, accepted, refused, Verdict, given}
+use Rattle.sd_format.specs.Frames.{Frame, one-option, look-up}
 use Rattle.refusal.specs.Said.{said}
 use Rattle.sd_option.specs.Reading.{Head, head-of, head-said}
 use Rattle.sd_index.specs.declared.lookup.Found.{Found}
@@ -31,3 +32,11 @@ by-table tab k = given (located (getD tab k 0))
 
 abbrev pub look-up-told : (s tab : List ℕ) (count k : ℕ) → Answer Located
 look-up-told s tab count k = by-table tab k (look-up s tab count k)
+
+-- ---- what is told pins the option
+
+-- The option `f` as it was read at place `at` of `s`, by its type and its bytes. Where it starts and how many bytes it takes give both.
+pub record Pinned (text : List ℕ → Verdict) (s : List ℕ) (at size : ℕ) (f : Frame) : Type 0 where
+  pub reads : one-option text (drop at s) ≡ accepted f
+  pub type : f .type ≡ getD s (at + 2) 0
+  pub body : f .body ≡ take (size - 3) (drop (at + 3) s)

@@ -8,7 +8,7 @@ use sd_option::reading::OptionAnswer;
 use sd_option::reading::OptionHead;
 use sd_option::reading::read_option_unscanned;
 ghost use mathlib.Core.Path.{_≡_};
-ghost use lib.ListN.{drop, getD};
+ghost use lib.ListN.{drop};
 ghost use Rattle.sd_index.specs.Found.{found-said, look-up-told};
 
 // An option that was found: where it starts in the options part, and what is told of it.

@@ -2,26 +2,26 @@
 use native.Mathlib.Omega.{arith}
 use borrow.Author.Needs.{needs}
 use Rattle.sd_index.specs.Found.{located}
-use Rattle.sd_index.proofs.FoundLaws.{told-refused, past-count, past-slots, past-table, by-slot, told-misfit, told-found}
+use Rattle.sd_index.proofs.FoundLaws.{told-refused, past-count, past-slots, past-table, told-misfit, told-found}
 use Rattle.sd_index.proofs.lookup.look_up.Statement.{statement}
 use Rattle.sd_index.proofs.lookup.look_up.Tie as tie
 
 returns : tie.Need-returns
 returns c =
     let start = c .before .before .before in
-    told-refused (located _) (past-count (start .args .options .now) (start .args .table .now) (start .args .count) (start .args .ordinal .0) (c .if1 .taken))
+    told-refused (located _) (past-count (start .args .options .now) (start .args .table .now) (start .args .count) (start .args .ordinal .0) (omega arith))
 
 returns-2 : tie.Need-returns-2
 returns-2 c =
     let start = c .before .before .before .before in
     told-refused (located _)
-    (past-slots (start .args .options .now) (start .args .table .now) (start .args .count) (start .args .ordinal .0) (c .before .if1 .left) (c .if2 .taken))
+    (past-slots (start .args .options .now) (start .args .table .now) (start .args .count) (start .args .ordinal .0) (omega arith) (omega arith))
 
 returns-3 : tie.Need-returns-3
 returns-3 c =
     let start = c .before .before .before .before .before in
     told-refused (located _)
-    (past-table (start .args .options .now) (start .args .table .now) (start .args .count) (start .args .ordinal .0) (c .before .before .if1 .left) (c .before .if2 .left) (c .if3 .taken))
+    (past-table (start .args .options .now) (start .args .table .now) (start .args .count) (start .args .ordinal .0) (omega arith) (omega arith) (omega arith))
 
 mul-t12 : tie.Need-mul-t12
 mul-t12 c = search needs
@@ -50,8 +50,7 @@ returns-4 c =
     let part = read .before in
     let test = part .before .before in
     let start = test .before .before .before .before .before in
-    told-misfit _ _ _ _
-    (by-slot (start .args .options .now) (start .args .table .now) (start .args .count) (start .args .ordinal .0) (test .before .before .if1 .left) (test .before .if2 .left) (test .if3 .left))
+    told-misfit (start .args .options .now) (start .args .table .now) (start .args .count) (start .args .ordinal .0) (omega arith) (omega arith) (omega arith)
     _ (part .option-at .ensures) (read .read-option-unscanned .result) (read .read-option-unscanned .ensures) _ (c .enum-told .given .1)
 
 returns-5 : tie.Need-returns-5
@@ -61,8 +60,7 @@ returns-5 c =
     let part = read .before in
     let test = part .before .before in
     let start = test .before .before .before .before .before in
-    told-found _ _ _ _
-    (by-slot (start .args .options .now) (start .args .table .now) (start .args .count) (start .args .ordinal .0) (test .before .before .if1 .left) (test .before .if2 .left) (test .if3 .left))
+    told-found (start .args .options .now) (start .args .table .now) (start .args .count) (start .args .ordinal .0) (omega arith) (omega arith) (omega arith)
     _ (part .option-at .ensures) (read .read-option-unscanned .result) (read .read-option-unscanned .ensures) _ (answer .answer .given .1)
 
 pub look-up-spec : {M : Type 1} → statement M

@@ -1,6 +1,7 @@
 -- `cursor::OptionCursor::next` meets its contract: it stops at the end, and within the bytes it goes by the reading of one option.
 -- Assumes nothing.
 use mathlib.Core.Path.{refl, sym, ap, _∙_}
+use native.Mathlib.Omega.{arith}
 use borrow.Author.Needs.{needs}
 use Rattle.sd_option.specs.Reading.{head-of, option-said}
 use Rattle.sd_option.specs.declared.reading.OptionAnswer.{OptionAnswer}
@@ -15,7 +16,7 @@ returns c =
     let start = c .before .before .before in
     let s = start .args .options .now in
     let at = start .args .self .at .0 in
-    option-stepped s at _ (told-refused head-of (next-ended s at (c .if1 .taken))) refl
+    option-stepped s at _ (told-refused head-of (next-ended s at (omega arith))) refl
 
 option-at-requires : tie.Need-option-at-requires
 option-at-requires c κs = search needs
@@ -37,7 +38,7 @@ returns-2 c =
     let start = within .before .before .before in
     let s = start .args .options .now in
     let at = start .args .self .at .0 in
-    option-stepped s at _ (next-told s at _ (part .option-at .ensures) (within .if1 .left) (read .read-option .result) (read .read-option .ensures))
+    option-stepped s at _ (next-told s at _ (part .option-at .ensures) (omega arith) (read .read-option .result) (read .read-option .ensures))
     (sym (ap (λ (x : OptionAnswer). stands behind-head (option-said x) at) (c .enum-told .given .1)))
 
 add-t7 : tie.Need-add-t7
@@ -47,7 +48,7 @@ add-t7 c =
     let part = read .before in
     let within = part .before in
     let start = within .before .before .before in
-    let fits = step-fits (start .args .options .now) (start .args .self .at .0) _ (part .option-at .ensures) (within .if1 .left)
+    let fits = step-fits (start .args .options .now) (start .args .self .at .0) _ (part .option-at .ensures) (omega arith)
     (read .read-option .result) (read .read-option .ensures) (answer .answer .given .0 .0) (answer .answer .given .1) in
     search needs
 
@@ -61,7 +62,7 @@ returns-3 c =
     let s = start .args .options .now in
     let at = start .args .self .at .0 in
     option-stepped s at _
-    (sym (ap option-said (answer .answer .given .1)) ∙ next-told s at _ (part .option-at .ensures) (within .if1 .left) (read .read-option .result) (read .read-option .ensures))
+    (sym (ap option-said (answer .answer .given .1)) ∙ next-told s at _ (part .option-at .ensures) (omega arith) (read .read-option .result) (read .read-option .ensures))
     refl
 
 pub next-spec : {M : Type 1} → statement M

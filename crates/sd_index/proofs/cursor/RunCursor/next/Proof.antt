@@ -1,6 +1,7 @@
 -- `cursor::RunCursor::next` meets its contract: it stops at the run's end before it looks at the table, and goes by lookup otherwise.
 -- Assumes nothing.
 use mathlib.Core.Path.{refl, sym, ap}
+use native.Mathlib.Omega.{arith}
 use borrow.Author.Needs.{needs}
 use Rattle.sd_index.specs.Found.{located, found-said}
 use Rattle.sd_index.specs.Steps.{run-said, stands}
@@ -15,7 +16,7 @@ returns c =
     let start = c .before .before .before .before in
     let r = run-said (start .args .self) in
     run-stepped (start .args .options .now) (start .args .table .now) (start .args .count) r _
-    (told-refused (located _) (run-ended (start .args .options .now) (start .args .table .now) (start .args .count) r (c .if1 .taken))) refl
+    (told-refused (located _) (run-ended (start .args .options .now) (start .args .table .now) (start .args .count) r (omega arith))) refl
 
 look-up-requires : tie.Need-look-up-requires
 look-up-requires c κs = search needs
@@ -33,7 +34,7 @@ returns-2 c =
     let start = left .before .before .before .before in
     let r = run-said (start .args .self) in
     run-stepped (start .args .options .now) (start .args .table .now) (start .args .count) r _
-    (run-told (start .args .options .now) (start .args .table .now) (start .args .count) r (left .if1 .left) (looked .look-up .ensures))
+    (run-told (start .args .options .now) (start .args .table .now) (start .args .count) r (λ e. omega arith) (looked .look-up .ensures))
     (sym (ap (λ (x : FoundAnswer). stands along-told (found-said x) r) (c .enum-told2 .given .1)))
 
 add-t10 : tie.Need-add-t10
@@ -56,7 +57,7 @@ returns-3 c =
     let start = left .before .before .before .before in
     let r = run-said (start .args .self) in
     run-stepped (start .args .options .now) (start .args .table .now) (start .args .count) r _
-    (run-told (start .args .options .now) (start .args .table .now) (start .args .count) r (left .if1 .left) (looked .look-up .ensures))
+    (run-told (start .args .options .now) (start .args .table .now) (start .args .count) r (λ e. omega arith) (looked .look-up .ensures))
     (sym (ap (λ (x : FoundAnswer). stands along-told (found-said x) r) (told .enum-told .given .1)))
 
 pub next-spec : {M : Type 1} → statement M
