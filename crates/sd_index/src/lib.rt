@@ -1,9 +1,19 @@
 // The options part of a payload: all options read into a lent table of byte offsets, lookup by an option's number, and the cursors that hand
 // options out. The table is 347 slots of the caller's.
+mod cursor;
+mod lookup;
 mod permission;
 mod reading;
 mod slots;
 
+pub use cursor::OptionCursor;
+pub use cursor::OptionStep;
+pub use cursor::RunCursor;
+pub use cursor::RunStep;
+pub use lookup::Found;
+pub use lookup::FoundAnswer;
+pub use lookup::look_up;
+pub use lookup::option_at;
 pub use reading::IndexAnswer;
 pub use reading::read_index;
 pub use reading::read_options;

@@ -1,11 +1,13 @@
 -- The kinds table: a type that is none of its codes is unknown; each kind has one row, and each row one kind. Assumes nothing.
-use mathlib.Core.Path.{_≡_, refl, sym, ap, _∙_}
+use mathlib.Core.Path.{_≡_, refl, sym, ap, _∙_, subst}
 use mathlib.Core.Logic.{_≢_}
-use mathlib.Core.Bool.{Bool, true, false, cond}
+use mathlib.Core.Bool.{Bool, true, false, not, cond}
 use mathlib.Core.List.{List, [], _∷_}
 use Prim.Native.Nat.{ℕ}
 use native.Mathlib.Omega.{arith}
-use lib.Dec.{eqb}
+use lib.Dec.{eqb, T}
+use types.Run.{OneOf, miss}
+use mir.Val.{hasKey}
 use borrow.Author.Tests.{eqb-true, ne-eqb}
 use Rattle.sd_format.specs.Options.{ipv4, ipv6, endpoint, multicast, sd-endpoint}
 use Rattle.sd_format.specs.Kinds.{Kind, Row, row, row-of, row-in, kinds, configuration, load-balancing, address, unknown, Length, exactly, one-or-more}
@@ -35,10 +37,6 @@ code-in-rows t (w ∷ ws) = code-in t w (row-in ws t) (eqb t (w .code)) refl (co
 pub row-code : (t : ℕ) → row-of t .code ≡ t
 unfolding row-of
 row-code t = code-in-rows t kinds
-
--- which variant a kind is
-abbrev pub tag : OptionKind → ℕ
-tag k = Declared.tagOf the-type k
 
 -- an arm of the match on a kind
 pub kind-arm : {r : KindRow} {k here : OptionKind} → r ≡ encoded (row-said here) → k ≡ here → r ≡ encoded (row-said k)
@@ -71,6 +69,64 @@ named-said (kind.Unknown t) = refl
 
 pub kind-pinned : (k m : OptionKind) → row-said k ≡ row-said m → k ≡ m
 kind-pinned k m e = sym (named-said k) ∙ ap (λ (w : Row). named (w .kind) (w .code)) e ∙ named-said m
+
+-- ---- which arm of a match a kind goes to
+
+-- which variant it is
+abbrev pub tag : OptionKind → ℕ
+tag k = Declared.tagOf the-type k
+
+abbrev tag-of : Kind → ℕ
+tag-of k = tag (named k 0)
+
+kind-tag : (k : OptionKind) → tag k ≡ tag-of (row-said k .kind)
+unfolding named row-of row-in kinds
+kind-tag kind.Configuration = refl
+kind-tag kind.LoadBalancing = refl
+kind-tag kind.Ipv4Endpoint = refl
+kind-tag kind.Ipv4Multicast = refl
+kind-tag kind.Ipv4SdEndpoint = refl
+kind-tag kind.Ipv6Endpoint = refl
+kind-tag kind.Ipv6Multicast = refl
+kind-tag kind.Ipv6SdEndpoint = refl
+kind-tag (kind.Unknown t) = refl
+
+-- an arm for other variants than those of the kind `here`
+other-arm : (here : Kind) (k : OptionKind) (tags : List ℕ) → T (not (hasKey tags (tag-of here))) → OneOf tags (tag k) → row-said k .kind ≢ here
+other-arm here k tags none o e = miss tags (tag-of here) none (subst (OneOf tags) (kind-tag k ∙ ap tag-of e) o)
+
+abbrev pub no-string : List ℕ
+no-string = 1 ∷ 2 ∷ 3 ∷ 4 ∷ 5 ∷ 6 ∷ 7 ∷ 8 ∷ []
+
+pub not-configuration : (k : OptionKind) → OneOf no-string (tag k) → row-said k .kind ≢ configuration
+unfolding named
+not-configuration k o = other-arm configuration k no-string tt o
+
+abbrev pub no-balancing : List ℕ
+no-balancing = 0 ∷ 2 ∷ 3 ∷ 4 ∷ 5 ∷ 6 ∷ 7 ∷ 8 ∷ []
+
+pub not-balancing : (k : OptionKind) → OneOf no-balancing (tag k) → row-said k .kind ≢ load-balancing
+unfolding named
+not-balancing k o = other-arm load-balancing k no-balancing tt o
+
+abbrev pub known : List ℕ
+known = 0 ∷ 1 ∷ 2 ∷ 3 ∷ 4 ∷ 5 ∷ 6 ∷ 7 ∷ []
+
+pub not-unknown : (k : OptionKind) → OneOf known (tag k) → row-said k .kind ≢ unknown
+unfolding named
+not-unknown k o = other-arm unknown k known tt o
+
+-- an arm for one variant
+pub is-configuration : (k : OptionKind) → k ≡ kind.Configuration → row-said k .kind ≡ configuration
+unfolding row-of row-in kinds
+is-configuration k e = rw e
+
+pub is-balancing : (k : OptionKind) → k ≡ kind.LoadBalancing → row-said k .kind ≡ load-balancing
+unfolding row-of row-in kinds
+is-balancing k e = rw e
+
+pub is-unknown : (k : OptionKind) (t : ℕ) → k ≡ kind.Unknown t → row-said k .kind ≡ unknown
+is-unknown k t e = rw e
 
 -- ---- the length that a row asks, out of the code's form
 

@@ -8,14 +8,13 @@ use native.Mathlib.Omega.{arith}
 use lib.ListN.{length, take, drop, getD, length-drop}
 use lib.Seq.{length-take-le, getD-take, getD-drop, drop-drop, take-nil}
 use lib.Dec.{ltb, eqb}
-use types.Run.{OneOf, miss}
 use borrow.Author.Tests.{lt-ltb, le-ltb, eq-eqb, ne-eqb, ltb-false, eqb-false}
 use Rattle.numbers.specs.Refusals.{Refusal, option-length, option-length-zero}
 use Rattle.numbers.specs.Answers.{Answer, accepted, refused, Verdict, pass, _>>=_, _>>_, refuse_when_else_, given}
 use Rattle.numbers.specs.Bytes.{at16}
 use Rattle.numbers.proofs.AnswerLaws.{not-refused, accepted-inj, when-accepted, bind-accepted, then-accepted}
 use Rattle.sd_format.specs.Options.{has}
-use Rattle.sd_format.specs.Kinds.{Kind, configuration, load-balancing, address, unknown, Length, exactly, one-or-more, Row, row-of, kind-of, judge-length, row-in, kinds, judge-text, judge-kind, scanned, unscanned}
+use Rattle.sd_format.specs.Kinds.{Kind, configuration, load-balancing, address, unknown, Length, exactly, one-or-more, Row, row-of, kind-of, judge-length, judge-text, judge-kind, scanned, unscanned}
 use Rattle.sd_format.specs.Frames.{Frame, size, frame, one-option, read-option}
 use Rattle.sd_format.specs.Fields.{discardable}
 use Rattle.refusal.specs.declared.StringError.{StringError}
@@ -23,10 +22,7 @@ use Rattle.refusal.specs.declared.Refusal as code
 use Rattle.config_string.specs.declared.StringAnswer.{StringAnswer}
 use Rattle.config_string.specs.declared.StringAnswer.the-variants as string
 use Rattle.config_string.specs.Answered.{answered}
-use Rattle.sd_option.specs.declared.kinds.OptionKind.{OptionKind}
-use Rattle.sd_option.specs.declared.kinds.OptionKind.the-variants as kind
 use Rattle.sd_option.specs.Kinds.{row-said}
-use Rattle.sd_option.proofs.KindLaws.{tag}
 use Rattle.refusal.specs.Said.{said}
 use Rattle.sd_option.specs.declared.reading.OptionHead.{OptionHead}
 use Rattle.sd_option.specs.declared.reading.OptionAnswer.{OptionAnswer}
@@ -34,10 +30,6 @@ use Rattle.sd_option.specs.declared.reading.OptionAnswer.the-variants as
 use Rattle.sd_option.specs.declared.reading.LengthAnswer.{LengthAnswer}
 use Rattle.sd_option.specs.declared.reading.LengthAnswer.the-variants as len
 use Rattle.sd_option.specs.Reading.{Head, head-of, head-said, option-said, part, body-of, body-length, length-judged, length-said, length-refusal, string-refusal}
-
--- two cases that are never one
-clash : {X : Type 0} → _≡_ {A = ℕ} 0 1 → X
-clash z = absurd (omega arith)
 
 -- ---- what was accepted, in another form
 
@@ -285,24 +277,17 @@ string-place s k h =
     past-first n [] = sym (take-nil n)
     past-first n (x ∷ l) = refl
 
--- the kinds without a string, and the one with it
-abbrev pub with-no-string : List ℕ
-with-no-string = 1 ∷ 2 ∷ 3 ∷ 4 ∷ 5 ∷ 6 ∷ 7 ∷ 8 ∷ []
+-- only a configuration option has one
+string-pass : (text : List ℕ → Verdict) (k : Kind) (body : List ℕ) → k ≢ configuration → judge-text text k body ≡ pass
+unfolding judge-text
+string-pass text configuration body h = absurd (h refl)
+string-pass text load-balancing body h = refl
+string-pass text (address family role) body h = refl
+string-pass text unknown body h = refl
 
-module _ (text : List ℕ → Verdict) where
-  string-arms : (k : OptionKind) (body : List ℕ) →
-      (k ≡ kind.Configuration → judge-text text (row-said k .kind) body ≡ text (drop 1 body))
-      × (OneOf with-no-string (tag k) → judge-text text (row-said k .kind) body ≡ pass)
-  unfolding judge-text row-of row-in kinds
-  string-arms kind.Configuration body = ((λ e. refl), (λ o. absurd (miss with-no-string 0 tt o)))
-  string-arms kind.LoadBalancing body = ((λ e. clash cc), (λ o. refl))
-  string-arms kind.Ipv4Endpoint body = ((λ e. clash cc), (λ o. refl))
-  string-arms kind.Ipv4Multicast body = ((λ e. clash cc), (λ o. refl))
-  string-arms kind.Ipv4SdEndpoint body = ((λ e. clash cc), (λ o. refl))
-  string-arms kind.Ipv6Endpoint body = ((λ e. clash cc), (λ o. refl))
-  string-arms kind.Ipv6Multicast body = ((λ e. clash cc), (λ o. refl))
-  string-arms kind.Ipv6SdEndpoint body = ((λ e. clash cc), (λ o. refl))
-  string-arms (kind.Unknown t) body = ((λ e. clash cc), (λ o. refl))
+string-text : (text : List ℕ → Verdict) (k : Kind) (body : List ℕ) → k ≡ configuration → judge-text text k body ≡ text (drop 1 body)
+unfolding judge-text
+string-text text k body e = rw e
 
 module _ (s : List ℕ) (a : OptionAnswer) (told : option-said a ≡ given head-of (one-option unscanned s)) where
   pub scan-refuses : (q : code.Refusal) → a ≡ option.Refused q → option-said a ≡ given head-of (read-option s)
@@ -321,12 +306,12 @@ module _ (s : List ℕ) (a : OptionAnswer) (told : option-said a ≡ given head-
     unfolding _>>_
     scan-passes v = let t = found unscanned s a told hd e in sym (ap option-said e) ∙ told ∙ ap (given head-of) (t .reads ∙ sym (scans ∙ rw v))
 
-    pub no-string : OneOf with-no-string (tag (hd .kind)) → accepted (head-said hd) ≡ given head-of (read-option s)
-    no-string o = scan-passes (string-arms scanned (hd .kind) (body-at s (hd .size - 3)) .1 o)
+    pub stringless : row-said (hd .kind) .kind ≢ configuration → accepted (head-said hd) ≡ given head-of (read-option s)
+    stringless other = scan-passes (string-pass scanned (row-said (hd .kind) .kind) (body-at s (hd .size - 3)) other)
 
-    module _ (is : hd .kind ≡ kind.Configuration) (str : StringAnswer) (checked : answered str ≡ scanned (take (hd .size - 4) (drop 4 s))) where
+    module _ (is : row-said (hd .kind) .kind ≡ configuration) (str : StringAnswer) (checked : answered str ≡ scanned (take (hd .size - 4) (drop 4 s))) where
       judged : string-judged ≡ answered str
-      judged = string-arms scanned (hd .kind) (body-at s (hd .size - 3)) .0 is ∙ ap scanned (string-place s (hd .size) (found unscanned s a told hd e .some)) ∙ sym checked
+      judged = string-text scanned (row-said (hd .kind) .kind) (body-at s (hd .size - 3)) is ∙ ap scanned (string-place s (hd .size) (found unscanned s a told hd e .some)) ∙ sym checked
 
       pub string-valid : str ≡ string.Valid → accepted (head-said hd) ≡ given head-of (read-option s)
       string-valid v = scan-passes (judged ∙ ap answered v)

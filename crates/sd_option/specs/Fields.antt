@@ -1,5 +1,5 @@
 -- What the answers of the fields say, and the fields that only this crate names. Assumes nothing: these are definitions.
-use Prim.Native.Nat.{ℕ}
+use Prim.Native.Nat.{ℕ, _+_}
 use mathlib.Core.List.{List, []}
 use lib.ListN.{length}
 use Rattle.numbers.specs.Refusals.{nothing-there}
@@ -33,6 +33,11 @@ size-said (size.Refused r) = refused (said r)
 abbrev pub size-refusal : SizeAnswer → Refusal
 size-refusal (size.Good n) = NothingThere
 size-refusal (size.Refused r) = r
+
+-- where a field of this size that stands behind the option's first byte ends; nothing where it is refused
+abbrev pub end-of : SizeAnswer → ℕ
+end-of (size.Good n) = 4 + n
+end-of (size.Refused r) = 0
 
 -- a field that only unknown options have
 unfoldable pub of-unknown : {A : Type 0} → (List ℕ → A) → Kind → List ℕ → Answer A

@@ -3,12 +3,13 @@
 ghost use mathlib.Core.Path.{_≡_};
 ghost use Prim.Native.Nat.{ℕ, _+_, _≤_};
 ghost use mathlib.Core.List.{List};
-ghost use lib.ListN.{length};
+ghost use lib.ListN.{length, take, drop};
+ghost use Rattle.numbers.specs.Answers.{given};
 ghost use Rattle.numbers.specs.Bytes.{at16};
 ghost use Rattle.sd_format.specs.Fields.{asked, of-address, of-load-balancing, of-configuration, address-bytes, protocol, port, priority, weight, string};
 ghost use Rattle.sd_option.specs.Kinds.{row-said};
 ghost use Rattle.sd_option.specs.Reading.{part, option-refusal};
-ghost use Rattle.sd_option.specs.Fields.{byte-said, word-said, size-said, size-refusal, size-asked, of-unknown, unknown-type};
+ghost use Rattle.sd_option.specs.Fields.{byte-said, word-said, size-said, size-refusal, size-asked, end-of, of-unknown, unknown-type};
 use crate::bytes::be16;
 use crate::kinds::OptionKind;
 use crate::reading::OptionAnswer;
@@ -66,4 +67,134 @@ pub fn address_size(s: &[u8]) -> SizeAnswer
             SizeAnswer::Good(16),
         _ => SizeAnswer::Refused(Refusal::NothingThere),
     }
+}
+
+// The transport protocol of an option with an address.
+pub fn protocol(s: &[u8]) -> ByteAnswer
+    ensures { λ r. ⌜ byte-said r ≡ asked (of-address protocol) (now (s .entry)) ⌝ }
+{
+    let answer = address_size(s);
+    let SizeAnswer::Good(width) = answer else {
+        return ByteAnswer::Refused(size_refusal(answer));
+    };
+    ByteAnswer::Good(s[5 + width])
+}
+
+// The port of an option with an address.
+pub fn port(s: &[u8]) -> WordAnswer
+    ensures { λ r. ⌜ word-said r ≡ asked (of-address port) (now (s .entry)) ⌝ }
+{
+    let answer = address_size(s);
+    let SizeAnswer::Good(width) = answer else {
+        return WordAnswer::Refused(size_refusal(answer));
+    };
+    WordAnswer::Good(be16(s[6 + width], s[7 + width]))
+}
+
+// The number at a place of a load balancing option's bytes.
+fn balancing(s: &[u8], place: usize) -> WordAnswer
+    requires { ⌜ place ≤ 3 ⌝ }
+    ensures { λ r. ⌜ word-said r ≡ asked (of-load-balancing (λ (body : List ℕ). at16 body place)) (now (s .entry)) ⌝ }
+{
+    let answer = read_option_unscanned(s);
+    let OptionAnswer::Good(head) = answer else {
+        return WordAnswer::Refused(option_refusal(answer));
+    };
+    let kind = head.kind;
+    let OptionKind::LoadBalancing = kind else {
+        return WordAnswer::Refused(Refusal::NothingThere);
+    };
+    WordAnswer::Good(be16(s[3 + place], s[4 + place]))
+}
+
+// The priority of a load balancing option.
+pub fn priority(s: &[u8]) -> WordAnswer
+    ensures { λ r. ⌜ word-said r ≡ asked (of-load-balancing priority) (now (s .entry)) ⌝ }
+{
+    balancing(s, 1)
+}
+
+// The weight of a load balancing option.
+pub fn weight(s: &[u8]) -> WordAnswer
+    ensures { λ r. ⌜ word-said r ≡ asked (of-load-balancing weight) (now (s .entry)) ⌝ }
+{
+    balancing(s, 3)
+}
+
+// How many bytes a configuration option's string has.
+pub fn string_size(s: &[u8]) -> SizeAnswer
+    ensures { λ r. ⌜ size-said r ≡ size-asked (of-configuration string) (now (s .entry)) ⌝ }
+{
+    let answer = read_option_unscanned(s);
+    let OptionAnswer::Good(head) = answer else {
+        return SizeAnswer::Refused(option_refusal(answer));
+    };
+    let kind = head.kind;
+    let OptionKind::Configuration = kind else {
+        return SizeAnswer::Refused(Refusal::NothingThere);
+    };
+    SizeAnswer::Good(head.size - 4)
+}
+
+// How many bytes an unknown option has after the first.
+pub fn unknown_size(s: &[u8]) -> SizeAnswer
+    ensures { λ r. ⌜ size-said r ≡ size-asked (of-unknown string) (now (s .entry)) ⌝ }
+{
+    let answer = read_option_unscanned(s);
+    let OptionAnswer::Good(head) = answer else {
+        return SizeAnswer::Refused(option_refusal(answer));
+    };
+    let kind = head.kind;
+    let OptionKind::Unknown(_) = kind else {
+        return SizeAnswer::Refused(Refusal::NothingThere);
+    };
+    SizeAnswer::Good(head.size - 4)
+}
+
+// An unknown option's type.
+pub fn unknown_type(s: &[u8]) -> ByteAnswer
+    ensures { λ r. ⌜ byte-said r ≡ unknown-type (now (s .entry)) ⌝ }
+{
+    let answer = read_option_unscanned(s);
+    let OptionAnswer::Good(head) = answer else {
+        return ByteAnswer::Refused(option_refusal(answer));
+    };
+    let kind = head.kind;
+    let OptionKind::Unknown(code) = kind else {
+        return ByteAnswer::Refused(Refusal::NothingThere);
+    };
+    ByteAnswer::Good(code)
+}
+
+// The bytes of a field that stands behind the option's first byte; none where it is refused.
+fn behind_first(s: &[u8], answer: SizeAnswer) -> &[u8]
+    requires { ⌜ end-of answer ≤ length (now s) ⌝ }
+    ensures { λ r. ⌜ now r ≡ part (given (λ (n : ℕ). take n (drop 4 (now (s .entry)))) (size-said answer)) ⌝ }
+{
+    let SizeAnswer::Good(size) = answer else {
+        return &s[0..0];
+    };
+    let end = 4 + size;
+    &s[4..end]
+}
+
+// The address: 4 or 16 bytes, none where `address_size` refuses.
+pub fn address(s: &[u8]) -> &[u8]
+    ensures { λ r. ⌜ now r ≡ part (asked (of-address address-bytes) (now (s .entry))) ⌝ }
+{
+    behind_first(s, address_size(s))
+}
+
+// A configuration option's string; none where `string_size` refuses.
+pub fn string(s: &[u8]) -> &[u8]
+    ensures { λ r. ⌜ now r ≡ part (asked (of-configuration string) (now (s .entry))) ⌝ }
+{
+    behind_first(s, string_size(s))
+}
+
+// An unknown option's bytes after the first; none where `unknown_size` refuses.
+pub fn unknown_bytes(s: &[u8]) -> &[u8]
+    ensures { λ r. ⌜ now r ≡ part (asked (of-unknown string) (now (s .entry))) ⌝ }
+{
+    behind_first(s, unknown_size(s))
 }

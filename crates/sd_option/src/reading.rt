@@ -7,7 +7,8 @@ ghost use Rattle.numbers.specs.Answers.{given};
 ghost use Rattle.sd_format.specs.Kinds.{unscanned};
 ghost use Rattle.sd_format.specs.Frames.{frame, one-option, read-option};
 ghost use Rattle.sd_option.specs.Kinds.{row-said};
-ghost use Rattle.sd_option.specs.Reading.{length-said, length-judged, length-refusal, string-refusal, body-length, body-of, part, option-said, head-of};
+ghost use Rattle.sd_option.specs.Permits.{permit-said, head-permit};
+ghost use Rattle.sd_option.specs.Reading.{head-said, length-said, length-judged, length-refusal, string-refusal, body-length, body-of, part, option-said, head-of};
 use crate::bytes::be16;
 use crate::bytes::is_discardable;
 use crate::kinds::KindLength;
@@ -167,4 +168,26 @@ pub fn option_bytes(s: &[u8]) -> &[u8]
     };
     let size = head.size;
     &s[3..size]
+}
+
+pub enum PermitAnswer {
+    Good,
+    Refused(Refusal),
+}
+
+// Whether an option may stand: an unknown one needs the discardable bit, unless the discard setting is on.
+pub fn permit(discard: bool, head: OptionHead) -> PermitAnswer
+    ensures { λ r. ⌜ permit-said r ≡ head-permit discard (head-said head) ⌝ }
+{
+    let kind = head.kind;
+    let OptionKind::Unknown(code) = kind else {
+        return PermitAnswer::Good;
+    };
+    if discard {
+        return PermitAnswer::Good;
+    }
+    if head.discardable {
+        return PermitAnswer::Good;
+    }
+    PermitAnswer::Refused(Refusal::UnknownOption(code))
 }

@@ -3,7 +3,8 @@ use native.Mathlib.Omega.{arith}
 use denote.Ref.{now}
 use Rattle.sd_format.specs.Kinds.{unscanned}
 use Rattle.sd_option.specs.Reading.{head-said}
-use Rattle.sd_option.proofs.ReadingLaws.{Found, found, scan-refuses, no-string, string-valid, string-refused}
+use Rattle.sd_option.proofs.KindLaws.{is-configuration, not-configuration}
+use Rattle.sd_option.proofs.ReadingLaws.{Found, found, scan-refuses, stringless, string-valid, string-refused}
 use borrow.Author.Needs.{needs}
 use Rattle.sd_option.proofs.reading.read_option.Statement.{statement}
 use Rattle.sd_option.proofs.reading.read_option.Tie as tie
@@ -33,7 +34,7 @@ returns-2 : tie.Need-returns-2
 returns-2 c =
     let a = c .before .before in
     let b = a .before .before .read-option-unscanned in
-    no-string _ (b .result) (b .ensures) (a .answer .given .0 .0) (a .answer .given .1) (c .match2 .keys2)
+    stringless _ (b .result) (b .ensures) (a .answer .given .0 .0) (a .answer .given .1) (not-configuration (a .answer .given .0 .0 .kind) (c .match2 .keys2))
 
 sub-check-string : tie.Need-sub-check-string
 sub-check-string c = let t = here (c .before .before .before) in omega arith
@@ -62,7 +63,7 @@ returns-3 c =
     let told = checked .before .before in
     let a = told .before .before .before in
     let b = a .before .before .read-option-unscanned in
-    string-refused _ (b .result) (b .ensures) (a .answer .given .0 .0) (a .answer .given .1) (told .enum-told2 .given .1) (checked .check-string .result) (checked .check-string .ensures)
+    string-refused _ (b .result) (b .ensures) (a .answer .given .0 .0) (a .answer .given .1) (is-configuration _ (told .enum-told2 .given .1)) (checked .check-string .result) (checked .check-string .ensures)
     _ (c .string-refusal .result) (c .before .enum-told4 .given .1) (c .string-refusal .ensures)
 
 returns-4 : tie.Need-returns-4
@@ -71,7 +72,7 @@ returns-4 c =
     let told = checked .before .before in
     let a = told .before .before .before in
     let b = a .before .before .read-option-unscanned in
-    string-valid _ (b .result) (b .ensures) (a .answer .given .0 .0) (a .answer .given .1) (told .enum-told2 .given .1) (checked .check-string .result) (checked .check-string .ensures) (c .enum-told3 .given .1)
+    string-valid _ (b .result) (b .ensures) (a .answer .given .0 .0) (a .answer .given .1) (is-configuration _ (told .enum-told2 .given .1)) (checked .check-string .result) (checked .check-string .ensures) (c .enum-told3 .given .1)
 
 pub read-option-spec : {M : Type 1} → statement M
 read-option-spec =

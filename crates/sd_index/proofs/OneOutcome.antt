@@ -1,0 +1,71 @@
+-- Each promise of lookup and the cursors allows one outcome. (A part is promised byte by byte, so there is nothing to show of it.)
+-- Assumes nothing.
+use Prim.Native.Nat.{ℕ}
+use mathlib.Core.Path.{_≡_, refl, sym, ap, _∙_}
+use mathlib.Core.List.{List}
+use Rattle.numbers.specs.Answers.{accepted, given}
+use Rattle.numbers.proofs.AnswerLaws.{accepted-inj, refused-inj, not-refused}
+use Rattle.sd_format.specs.Frames.{Run, next-option}
+use Rattle.refusal.proofs.OneToOne.{one-to-one}
+use Rattle.sd_option.specs.declared.reading.OptionHead.{OptionHead}
+use Rattle.sd_option.specs.declared.reading.OptionAnswer.the-variants as option
+use Rattle.sd_option.specs.Reading.{head-said, head-of}
+use Rattle.sd_option.proofs.OneAnswer.{one-option-answer}
+use Rattle.sd_index.specs.Found.{Located, located-said, found-said, look-up-told}
+use Rattle.sd_index.specs.Steps.{run-of, run-said, OptionStepped, RunStepped}
+use Rattle.sd_index.specs.declared.lookup.Found.{Found}
+use Rattle.sd_index.specs.declared.lookup.FoundAnswer.{FoundAnswer}
+use Rattle.sd_index.specs.declared.lookup.FoundAnswer.the-variants as found
+use Rattle.sd_index.specs.declared.cursor.OptionCursor.{OptionCursor}
+use Rattle.sd_index.specs.declared.cursor.OptionStep.{OptionStep}
+use Rattle.sd_index.specs.declared.cursor.RunCursor.{RunCursor}
+use Rattle.sd_index.specs.declared.cursor.RunStep.{RunStep}
+
+-- ---- what is said of them keeps them apart
+
+head-one : (x y : OptionHead) → head-said x ≡ head-said y → x ≡ y
+head-one x y same = let e = one-option-answer (accepted (head-said y)) (option.Good x) (option.Good y) (ap accepted same) refl in cc
+
+located-one : (x y : Found) → located-said x ≡ located-said y → x ≡ y
+located-one x y same =
+    let offset = ap (λ (l : Located). l .offset) same in
+    let head = head-one (x .head) (y .head) (ap (λ (l : Located). l .head) same) in
+    λ i. record { offset = record { 0 = offset i }; head = head i }
+
+found-one : (x y : FoundAnswer) → found-said x ≡ found-said y → x ≡ y
+found-one (found.Good f) (found.Good g) same = ap found.Good (located-one f g (accepted-inj _ _ same))
+found-one (found.Good f) (found.Refused q) same = not-refused _ _ (sym same)
+found-one (found.Refused r) (found.Good g) same = not-refused _ _ same
+found-one (found.Refused r) (found.Refused q) same = ap found.Refused (one-to-one r q (refused-inj _ _ same))
+
+place-one : (x y : OptionCursor) → x .at .0 ≡ y .at .0 → x ≡ y
+place-one x y same = λ i. record { at = record { 0 = same i } }
+
+run-one : (x y : RunCursor) → run-said x ≡ run-said y → x ≡ y
+run-one x y same = λ i. record { next = record { 0 = same i .next }; left = same i .left }
+
+-- ---- so a promise allows one
+
+-- `look_up`
+pub look-up-only : (s tab : List ℕ) (count k : ℕ) (x y : FoundAnswer) → found-said x ≡ look-up-told s tab count k → found-said y ≡ look-up-told s tab count k → x ≡ y
+look-up-only s tab count k x y p q = found-one x y (p ∙ sym q)
+
+-- `OptionCursor::new` and `next`
+pub option-new-only : (x y : OptionCursor) → x .at .0 ≡ 0 → y .at .0 ≡ 0 → x ≡ y
+option-new-only x y p q = place-one x y (p ∙ sym q)
+
+pub option-next-only : (s : List ℕ) (at : ℕ) (x y : OptionStep) → OptionStepped s at x → OptionStepped s at y → x ≡ y
+option-next-only s at x y p q =
+    let answer = one-option-answer (given head-of (next-option s at)) (x .answer) (y .answer) (p .answer) (q .answer) in
+    let cursor = place-one (x .cursor) (y .cursor) (p .cursor ∙ sym (q .cursor)) in
+    λ i. record { answer = answer i; cursor = cursor i }
+
+-- `RunCursor::new` and `next`
+pub run-new-only : (start count : ℕ) (x y : RunCursor) → run-said x ≡ run-of start count → run-said y ≡ run-of start count → x ≡ y
+run-new-only start count x y p q = run-one x y (p ∙ sym q)
+
+pub run-next-only : (s tab : List ℕ) (count : ℕ) (r : Run) (x y : RunStep) → RunStepped s tab count r x → RunStepped s tab count r y → x ≡ y
+run-next-only s tab count r x y p q =
+    let answer = found-one (x .answer) (y .answer) (p .answer ∙ sym (q .answer)) in
+    let cursor = run-one (x .cursor) (y .cursor) (p .cursor ∙ sym (q .cursor)) in
+    λ i. record { answer = answer i; cursor = cursor i }

@@ -1,0 +1,54 @@
+-- What lookup and the option cursor tell of an option pins the option itself, its type and its bytes, and the bytes from its offset on are
+-- read as that option: what `sd_option` answers of them is of the option that was handed out. Assumes nothing.
+use Prim.Native.Nat.{ℕ, _+_, _-_}
+use mathlib.Core.Path.{_≡_, sym, ap, _∙_}
+use mathlib.Core.List.{List}
+use native.Mathlib.Omega.{arith}
+use lib.ListN.{length, take, drop, getD}
+use lib.Seq.{getD-drop, drop-drop}
+use Rattle.numbers.specs.Answers.{Answer, accepted, refused, Verdict, given}
+use Rattle.numbers.proofs.AnswerLaws.{not-refused, when-accepted, given-accepted}
+use Rattle.sd_format.specs.Kinds.{scanned, unscanned}
+use Rattle.sd_format.specs.Sequences.{next-at}
+use Rattle.sd_format.specs.Frames.{Frame, size, one-option, misfit, look-up, next-option}
+use Rattle.sd_format.proofs.FrameLaws.{option-says}
+use Rattle.sd_option.specs.Reading.{Head, head-of}
+use Rattle.sd_index.specs.Found.{Located, located, look-up-told, Pinned}
+
+pinned : (text : List ℕ → Verdict) (s : List ℕ) (at n : ℕ) (f : Frame) → one-option text (drop at s) ≡ accepted f → size f ≡ n → Pinned text s at n f
+pinned text s at n f reads e =
+    let w = option-says text (drop at s) f reads .1 in
+    let k : length (f .body) ≡ n - 3 = omega arith in
+    record {
+      reads = reads;
+      type = sym (w .type-at) ∙ getD-drop at s 2 0;
+      body = sym (w .body-at) ∙ ap (take (length (f .body))) (drop-drop 3 at s) ∙ ap (λ (m : ℕ). take m (drop (at + 3) s)) k;
+    }
+
+fitting : (a : Answer Frame) (f : Frame) → misfit a ≡ accepted f → a ≡ accepted f
+unfolding misfit
+fitting (accepted x) f e = e
+fitting (refused r) f e = not-refused _ f e
+
+-- where lookup found an option, it stands at its slot's offset
+pub slot-reads : (s tab : List ℕ) (count k : ℕ) (f : Frame) → look-up s tab count k ≡ accepted f → one-option unscanned (drop (getD tab k 0) s) ≡ accepted f
+unfolding look-up
+slot-reads s tab count k f e =
+    let counted = when-accepted _ _ _ f e in
+    let slot = when-accepted _ _ _ f (counted .1) in
+    let lent = when-accepted _ _ _ f (slot .1) in
+    fitting (one-option unscanned (drop (getD tab k 0) s)) f (lent .1)
+
+pub found-pinned : (s tab : List ℕ) (count k : ℕ) (l : Located) → look-up-told s tab count k ≡ accepted l
+    → (f : Frame) × (look-up s tab count k ≡ accepted f) × Pinned unscanned s (l .offset) (l .head .size) f
+found-pinned s tab count k l e =
+    let (f, found, told) = given-accepted (located (getD tab k 0)) (look-up s tab count k) l e in
+    let at : getD tab k 0 ≡ l .offset = ap (λ (x : Located). x .offset) told in
+    (f, found, pinned unscanned s (l .offset) (l .head .size) f (sym (ap (λ (m : ℕ). one-option unscanned (drop m s)) at) ∙ slot-reads s tab count k f found) (ap (λ (x : Located). x .head .size) told))
+
+pub next-pinned : (s : List ℕ) (at : ℕ) (h : Head) → given head-of (next-option s at) ≡ accepted h
+    → (f : Frame) × (next-option s at ≡ accepted f) × Pinned scanned s at (h .size) f
+unfolding next-at
+next-pinned s at h e =
+    let (f, found, told) = given-accepted head-of (next-option s at) h e in
+    (f, found, pinned scanned s at (h .size) f (when-accepted _ _ _ f found .1) (ap (λ (x : Head). x .size) told))
