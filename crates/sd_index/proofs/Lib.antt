@@ -1,4 +1,3 @@
-pub mod PermissionLaws
 pub mod SlotLaws
 pub mod Turns
 pub mod IndexLaws

@@ -1,4 +1,3 @@
-pub mod Permission
 pub mod Said
 pub mod Indexed
 pub mod Found
