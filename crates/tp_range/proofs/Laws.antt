@@ -81,7 +81,7 @@ over-snoc rs array a h =
     ∙ sym (append-assoc rs (a ∷ []) (drop (length (rs ++ (a ∷ []))) array)
     ∙ ap (λ (n : ℕ). rs ++ (a ∷ drop n array)) (length-append rs (a ∷ []) ∙ add-one (length rs)))
 
-over-length : (rs array : List TpRange) → length rs ≤ length array → length (over rs array) ≡ length array
+pub over-length : (rs array : List TpRange) → length rs ≤ length array → length (over rs array) ≡ length array
 over-length rs array h = length-append rs (drop (length rs) array) ∙ omega (arith, length-drop (length rs) array)
 
 pub placed-over : (array rs : List TpRange) → length rs ≤ length array → placed array rs ≡ over rs array
@@ -129,6 +129,17 @@ module _ (array : List TpRange) (count : ℕ) (long : length array ≡ most) whe
     pub joined-full : most ≤ length keeps → record { full = true; ranges = array; count = count } ≡ joinedIn array count new
     unfolding joinedIn
     joined-full h = fitted-out (keeps ++ (grows ∷ [])) (omega (arith, all-count)) ∙ ap (fitted array count) all-joined
+
+-- what joining gives, by whether there is a place
+pub fitted-full : (array : List TpRange) (count : ℕ) (rs : List TpRange) → fitted array count rs .full ≡ ltb most (length rs)
+fitted-full array count rs = go (ltb most (length rs)) refl
+  where
+    go : (b : Bool) → ltb most (length rs) ≡ b → fitted array count rs .full ≡ b
+    go true e = rw e
+    go false e = rw e
+
+pub fitted-placed : (array : List TpRange) (count : ℕ) (rs : List TpRange) → ltb most (length rs) ≡ false → fitted array count rs ≡ record { full = false; ranges = placed array rs; count = length rs }
+fitted-placed array count rs e = rw e
 
 -- ---- what is left of the first n from i on
 module _ (rs : List TpRange) (i n : ℕ) (d : TpRange) (h : i < n) (k : n ≤ length rs) where

@@ -8,8 +8,9 @@ use borrow.Author.Tests.{lt-ltb, le-ltb, eq-eqb, ne-eqb, ltb-false, eqb-false, n
 use lib.Dec.{ltb, eqb}
 use lib.ListN.{length, getD, length-drop}
 use Rattle.numbers.specs.Bytes.{at16, at32}
-use Rattle.numbers.specs.Answers.{Answer, accepted, refused}
-use Rattle.numbers.proofs.AnswerLaws.{when-hit, when-pass}
+use Rattle.numbers.specs.Refusals.{not-a-segment}
+use Rattle.numbers.specs.Answers.{Answer, accepted, refused, refuse_when_else_}
+use Rattle.numbers.proofs.AnswerLaws.{when-hit, when-pass, test-accepted, accepted-inj, not-refused}
 use Rattle.tp_machine.specs.Segments.{isSegment, tpType, offset, more, payload, size}
 use Rattle.tp_segment.specs.declared.TpHeader.{TpHeader}
 use Rattle.tp_segment.specs.declared.TpSegment.{TpSegment}
@@ -79,6 +80,21 @@ reads-not s e = rw (e, when-hit)
 pub reads-good : (s : List ℕ) (w : ℕ) → isSegment s ≡ true → w ≡ at32 s 16 → told (Good (record { offset = w - w % 16; more = eqb (w % 2) 1; size = length s - 20 })) ≡ reading s
 unfolding reading offset more payload
 reads-good s w e h = rw (e, when-pass) (λ i. accepted (record { offset = h i - h i % 16; more = eqb (h i % 2) 1; size = sym (length-drop 20 s) i }))
+
+-- what an answer of reading tells
+pub reading-not : (s : List ℕ) → told NotASegment ≡ reading s → isSegment s ≡ false
+unfolding reading refuse_when_else_
+reading-not s e = go (isSegment s) refl e
+  where
+    go : (b : Bool) → isSegment s ≡ b → told NotASegment ≡ (refuse not-a-segment when not b else accepted (headerOf s)) → isSegment s ≡ false
+    go true i q = not-refused not-a-segment (headerOf s) q
+    go false i q = i
+
+pub reading-good : (s : List ℕ) (h : TpHeader) → told (Good h) ≡ reading s → (isSegment s ≡ true) × (h ≡ headerOf s)
+unfolding reading
+reading-good s h e =
+    let a = test-accepted not-a-segment (isSegment s) (accepted (headerOf s)) h .0 (sym e) in
+    (a .0, sym (accepted-inj (headerOf s) h (a .1)))
 
 -- an answer is pinned by what it says
 pub told-one : (a b : TpSegment) → told a ≡ told b → a ≡ b

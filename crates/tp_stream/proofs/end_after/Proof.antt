@@ -1,0 +1,16 @@
+-- `tp_stream::end_after` meets its contract. Assumes nothing.
+use mathlib.Core.Path.{sym, ap}
+use mathlib.Core.Bool.{Bool, cond}
+use Rattle.tp_machine.specs.declared.TpEnd.the-variants.{Known}
+use borrow.Author.Needs.{needs}
+use Rattle.tp_stream.proofs.end_after.Statement.{statement}
+use Rattle.tp_stream.proofs.end_after.Tie as tie
+
+returns : tie.Need-returns
+returns c = search needs
+
+returns-2 : tie.Need-returns-2
+returns-2 c = rw (c .if1 .left)
+
+pub end-after-spec : {M : Type 1} → statement M
+end-after-spec = tie.close (tie.spec returns returns-2)
