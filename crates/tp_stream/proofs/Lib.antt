@@ -4,3 +4,5 @@ pub mod JudgingLaws
 pub mod WritingLaws
 pub mod StepLaws
 pub mod TakingLaws
+pub mod Unique
+pub mod Follows

@@ -13,7 +13,7 @@ use tp_segment::TpHeader;
 use tp_segment::TpSegment;
 
 // What judging answers: the segment's header, or the first refusal.
-pub enum TpJudged {
+pub(crate) enum TpJudged {
     Good(TpHeader),
     Refused(TpRefusal),
 }
