@@ -50,7 +50,7 @@ module _ (p : State) (seg : List ℕ) (room : ℕ) where
   unfolding judged refuse_when_else_
   judged-not m g = rw (m, g)
 
--- the tests by what the header says: 31, 32, 33
+-- the tests by what the header says: 31, 32, 33, 34
 abbrev pub past : State → TpHeader → Bool
 past p h = ltb (p .limit) (h .offset + h .size)
 
@@ -60,13 +60,16 @@ uneven h = h .more && not (eqb (h .size % 16) 0)
 abbrev pub clash : State → TpHeader → Bool
 clash p h = conflicts (p .end) (h .more) (h .offset + h .size)
 
+abbrev pub short-of : ℕ → TpHeader → Bool
+short-of room h = ltb room (16 + (h .offset + h .size))
+
 -- what each of them decides
 pub record Decides (p : State) (seg : List ℕ) (room : ℕ) (h : TpHeader) : Type 0 where
   pub big : past p h ≡ true → judged p seg room ≡ refused (segment-too-big (h .offset) (h .size) (p .limit))
   pub not-aligned : past p h ≡ false → uneven h ≡ true → judged p seg room ≡ refused (unaligned (h .offset) (h .size))
   pub conflict : past p h ≡ false → uneven h ≡ false → clash p h ≡ true → judged p seg room ≡ refused (conflicting-end (previous (p .end)) (h .offset + h .size))
-  pub short : past p h ≡ false → uneven h ≡ false → clash p h ≡ false → room < 16 + (h .offset + h .size) → judged p seg room ≡ refused (buffer-too-short (16 + (h .offset + h .size)))
-  pub passes : past p h ≡ false → uneven h ≡ false → clash p h ≡ false → 16 + (h .offset + h .size) ≤ room → Passed p seg room h
+  pub short : past p h ≡ false → uneven h ≡ false → clash p h ≡ false → short-of room h ≡ true → judged p seg room ≡ refused (buffer-too-short (16 + (h .offset + h .size)))
+  pub passes : past p h ≡ false → uneven h ≡ false → clash p h ≡ false → short-of room h ≡ false → Passed p seg room h
 
 module _ (p : State) (seg : List ℕ) (room : ℕ) (m : badState p ≡ false) (g : isSegment seg ≡ true) where
   of-header : Decides p seg room (headerOf seg)
@@ -75,14 +78,14 @@ module _ (p : State) (seg : List ℕ) (room : ℕ) (m : badState p ≡ false) (g
     big = λ a. rw (m, g, a);
     not-aligned = λ a b. rw (m, g, a, b);
     conflict = λ a b c. rw (m, g, a, b, c);
-    short = λ a b c d. rw (m, g, a, b, c, lt-ltb room (16 + endOf seg) d);
+    short = λ a b c d. rw (m, g, a, b, c, d);
     passes = λ a b c d. record {
       good = m;
       header = refl;
       long = is-long seg g;
       low = omega (arith, ltb-false (p .limit) (endOf seg) a, sound p m .low);
-      fits = d;
-      rest = rw (m, g, a, b, c, le-ltb room (16 + endOf seg) d);
+      fits = ltb-false room (16 + endOf seg) d;
+      rest = rw (m, g, a, b, c, d);
     };
   }
 

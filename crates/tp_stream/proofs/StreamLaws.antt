@@ -9,6 +9,8 @@ use lib.Dec.{leb, ltb}
 use lib.ListN.{length, take, drop, replicate, length-append, length-take, length-replicate, length-map, take-append-drop}
 use lib.Seq.{take-length, take-all, take-append-le, take-append-seam, length-take-le}
 use Rattle.tp_machine.specs.declared.TpRange.{TpRange}
+use Rattle.numbers.specs.Refusals.{limit-too-large}
+use Rattle.numbers.specs.Answers.{pass, refused}
 use Rattle.numbers.proofs.AnswerLaws.{when-hit, when-pass}
 use Rattle.tp_machine.specs.declared.TpEnd.the-variants.{Unknown}
 use Rattle.tp_machine.specs.Machine.{most, highest, State, fresh, begun, begin, clear}
@@ -16,8 +18,8 @@ use Rattle.tp_range.specs.Joining.{placed}
 use Rattle.tp_range.proofs.Laws.{over, over-length, placed-over}
 use Rattle.tp_stream.specs.declared.TpStream.{TpStream}
 use Rattle.tp_stream.specs.Stream.{none, held, view, stored, blank}
-use Rattle.tp_stream.specs.declared.TpRefusal.the-variants.{LimitTooLarge}
-use Rattle.tp_stream.specs.declared.TpAnswer.the-variants.{Accepted, Refused}
+use Rattle.tp_stream.specs.declared.TpAnswer.{TpAnswer}
+use Rattle.tp_stream.specs.Saying.{answerOf}
 use Rattle.tp_stream.specs.Promises.{Began}
 
 -- what owning a struct tells of an array in it speaks of the elements mapped
@@ -80,18 +82,24 @@ pub cleared : (s : TpStream) → record { limit = s .limit; ranges = s .ranges; 
 unfolding clear
 cleared s = λ i. record { limit = s .limit; ranges = keeps-places (s .ranges) i; count = 0; end = Unknown }
 
-unused : (limit : ℕ) → record { limit = limit; ranges = replicate most none; count = 0; end = Unknown } ≡ stored blank (fresh limit)
-unfolding blank
-unused limit = λ i. record { limit = limit; ranges = keeps-places (replicate most none) i; count = 0; end = Unknown }
+pub began : (limit l : ℕ) (a : TpAnswer) → answerOf a ≡ begun limit → l ≡ begin limit .limit → Began limit (record { answer = a; stream = record { limit = l; ranges = replicate most none; count = 0; end = Unknown } })
+unfolding begin blank
+began limit l a e q = record { answers = e; begins = λ i. record { limit = q i; ranges = keeps-places (replicate most none) i; count = 0; end = Unknown } }
 
-pub began : (limit : ℕ) → limit ≤ highest → Began limit (record { answer = Accepted; stream = record { limit = limit; ranges = replicate most none; count = 0; end = Unknown } })
-unfolding begun begin
-began limit h =
-    let e : ltb highest limit ≡ false = le-ltb highest limit h in
-    record { answers = rw (e, when-pass); begins = unused limit ∙ ap (λ (b : Bool). stored blank (fresh (cond b 0 limit))) (sym e) }
+-- 36
+module _ (limit : ℕ) where
+  pub begun-not : highest < limit → refused (limit-too-large limit) ≡ begun limit
+  unfolding begun
+  begun-not h = rw (lt-ltb highest limit h, when-hit)
 
-pub not-begun : (limit : ℕ) → highest < limit → Began limit (record { answer = Refused (LimitTooLarge limit); stream = record { limit = 0; ranges = replicate most none; count = 0; end = Unknown } })
-unfolding begun begin
-not-begun limit h =
-    let e : ltb highest limit ≡ true = lt-ltb highest limit h in
-    record { answers = rw (e, when-hit); begins = unused 0 ∙ ap (λ (b : Bool). stored blank (fresh (cond b 0 limit))) (sym e) }
+  pub begun-well : limit ≤ highest → pass ≡ begun limit
+  unfolding begun
+  begun-well h = rw (le-ltb highest limit h, when-pass)
+
+  pub granted-none : highest < limit → 0 ≡ begin limit .limit
+  unfolding begin
+  granted-none h = rw (lt-ltb highest limit h)
+
+  pub granted-all : limit ≤ highest → limit ≡ begin limit .limit
+  unfolding begin
+  granted-all h = rw (le-ltb highest limit h)

@@ -4,7 +4,7 @@ use mathlib.Core.Path.{_≡_, refl, sym, ap, _∙_}
 use mathlib.Core.Bool.{Bool, true, false, _&&_, not, false≢true}
 use mathlib.Core.List.{List, [], _∷_}
 use native.Mathlib.Omega.{arith}
-use borrow.Author.Tests.{lt-ltb, le-ltb, ltb-false}
+use borrow.Author.Tests.{ltb-false}
 use lib.Dec.{ltb, eqb}
 use lib.ListN.{length, take, getD}
 use Rattle.numbers.specs.Bytes.{be32}
@@ -61,13 +61,13 @@ module _ (p : State) (room : ℕ) where
     ready-not w = rw (m, sym complete-whole ∙ w)
 
     module _ (w : (isKnown (p .end) && whole (p .ranges)) ≡ true) (e : ℕ) (q : e ≡ endHeld (p .ranges)) where
-      pub ready-short : room < 16 + e → refused (buffer-too-short (16 + e)) ≡ ready p room
+      pub ready-short : ltb room (16 + e) ≡ true → refused (buffer-too-short (16 + e)) ≡ ready p room
       unfolding ready refuse_when_else_
-      ready-short h = rw (m, sym complete-whole ∙ w, ← q, lt-ltb room (16 + e) h)
+      ready-short h = rw (m, sym complete-whole ∙ w, ← q, h)
 
-      pub ready-end : 16 + e ≤ room → accepted e ≡ ready p room
+      pub ready-end : ltb room (16 + e) ≡ false → accepted e ≡ ready p room
       unfolding ready refuse_when_else_
-      ready-end h = rw (m, sym complete-whole ∙ w, ← q, le-ltb room (16 + e) h)
+      ready-end h = rw (m, sym complete-whole ∙ w, ← q, h)
 
 pub not-complete-bad : (p : State) → badState p ≡ true → false ≡ complete p
 unfolding complete

@@ -1,11 +1,13 @@
-// The tests of a segment that come before joining, in document 01's order: 38, 30, 31, 32, 33, 34. Each rule is a function.
+// The tests before a stream is begun (36) and before a segment is joined, in document 01's order: 38, 30, 31, 32, 33, 34. Each rule is a function.
 ghost use mathlib.Core.Path.{_≡_};
 ghost use mathlib.Core.Bool.{_&&_, not};
 ghost use Prim.Native.Nat.{_+_, _%_};
 ghost use lib.Dec.{eqb, ltb};
-ghost use Rattle.tp_machine.specs.Machine.{conflicts, previous};
+ghost use Rattle.tp_machine.specs.Machine.{conflicts, previous, begun as begunOf, begin};
+ghost use Rattle.tp_stream.specs.Saying.{answerOf};
 ghost use Rattle.tp_stream.specs.Stream.{view};
 ghost use Rattle.tp_stream.specs.Promises.{Judges};
+use crate::TpAnswer;
 use crate::TpRefusal;
 use crate::TpStream;
 use tp_machine::TpEnd;
@@ -66,6 +68,33 @@ fn previous_end(end: TpEnd) -> u32
     }
 }
 
+// 34: whether a buffer of `room` bytes is too short for a payload that ends at x.
+pub(crate) fn too_short(room: usize, x: u32) -> bool
+    ensures { λ r. ⌜ r ≡ ltb room (16 + x) ⌝ }
+{
+    room < 16 + x as usize
+}
+
+// 36, or a stream of that limit may begin.
+pub(crate) fn begun(limit: u32) -> TpAnswer
+    ensures { λ r. ⌜ answerOf r ≡ begunOf limit ⌝ }
+{
+    if crate::MAX_LIMIT < limit {
+        return TpAnswer::Refused(TpRefusal::LimitTooLarge { limit });
+    }
+    TpAnswer::Accepted
+}
+
+// The limit of a stream that is begun with that one.
+pub(crate) fn granted(limit: u32) -> u32
+    ensures { λ r. ⌜ r ≡ begin limit .limit ⌝ }
+{
+    if crate::MAX_LIMIT < limit {
+        return 0;
+    }
+    limit
+}
+
 // The first refusal of a segment for a buffer of `room` bytes, the one after joining aside; or its header.
 pub(crate) fn judge(s: TpStream, seg: &[u8], room: usize) -> TpJudged
     ensures { λ r. ⌜ Judges (view s) (now (seg .entry)) room r ⌝ }
@@ -94,8 +123,8 @@ pub(crate) fn judge(s: TpStream, seg: &[u8], room: usize) -> TpJudged
         let previous = previous_end(end);
         return TpJudged::Refused(TpRefusal::ConflictingEnd { previous, new });
     }
-    let needed = 16 + new as usize;
-    if room < needed {
+    if too_short(room, new) {
+        let needed = 16 + new as usize;
         return TpJudged::Refused(TpRefusal::BufferTooShort { needed });
     }
     TpJudged::Good(header)

@@ -78,21 +78,10 @@ pub fn begin(limit: u32) -> TpStep
 {
     let none = TpRange { start: 0, end: 0 };
     let ranges = [none; MAX_RANGES];
-    if limit <= MAX_LIMIT {
-        return TpStep {
-            answer: TpAnswer::Accepted,
-            stream: TpStream {
-                limit,
-                ranges,
-                count: 0,
-                end: TpEnd::Unknown,
-            },
-        };
-    }
     TpStep {
-        answer: TpAnswer::Refused(TpRefusal::LimitTooLarge { limit }),
+        answer: judging::begun(limit),
         stream: TpStream {
-            limit: 0,
+            limit: judging::granted(limit),
             ranges,
             count: 0,
             end: TpEnd::Unknown,

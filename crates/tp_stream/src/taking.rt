@@ -35,8 +35,8 @@ pub(crate) fn ready(s: TpStream, room: usize) -> TpTaken
     if whole(s) {
         let ranges = s.ranges;
         let first = ranges[0];
-        let needed = 16 + first.end as usize;
-        if room < needed {
+        if crate::judging::too_short(room, first.end) {
+            let needed = 16 + first.end as usize;
             return TpTaken::Refused(TpRefusal::BufferTooShort { needed });
         }
         return TpTaken::Report(first.end);

@@ -136,12 +136,14 @@ add-t22 c = search needs
 returns : tie.Need-returns Inv-loop μ-loop
 returns c =
     let at-loop = c .before .before in
-    with-place _ _ _ _ _ _ _ _ (long (at-loop .before .before)) (at-loop .loop .inv) (c .before .loop-test .left) (at-loop .before .places .ensures) (c .if2 .taken)
+    let room : at-loop .loop .kept < most = omega arith in
+    with-place _ _ _ _ _ _ _ _ (long (at-loop .before .before)) (at-loop .loop .inv) (c .before .loop-test .left) (at-loop .before .places .ensures) room
 
 returns-2 : tie.Need-returns-2 Inv-loop μ-loop
 returns-2 c =
     let at-loop = c .before .before in
-    without _ _ _ _ _ _ _ _ (long (at-loop .before .before)) (at-loop .loop .inv) (c .before .loop-test .left) (at-loop .before .places .ensures) (c .if2 .left)
+    let none-left : most ≤ at-loop .loop .kept = omega arith in
+    without _ _ _ _ _ _ _ _ (long (at-loop .before .before)) (at-loop .loop .inv) (c .before .loop-test .left) (at-loop .before .places .ensures) none-left
 
 pub join-spec : {M : Type 1} → statement M
 join-spec =

@@ -1,13 +1,17 @@
 -- `tp_stream::begin` meets its contract. Assumes nothing.
-use Rattle.tp_stream.proofs.StreamLaws.{began, not-begun}
+use Rattle.tp_stream.proofs.StreamLaws.{began}
+use borrow.Author.Needs.{needs}
 use Rattle.tp_stream.proofs.begin.Statement.{statement}
 use Rattle.tp_stream.proofs.begin.Tie as tie
 
-returns : tie.Need-returns
-returns c = began _ (c .if1 .taken)
+begun-requires : tie.Need-begun-requires
+begun-requires c κs = search needs
 
-returns-2 : tie.Need-returns-2
-returns-2 c = not-begun _ (c .if1 .left)
+granted-requires : tie.Need-granted-requires
+granted-requires c κs = search needs
+
+returns : tie.Need-returns
+returns c = began _ _ _ (c .before .begun .ensures) (c .granted .ensures)
 
 pub begin-spec : {M : Type 1} → statement M
-begin-spec = tie.close (tie.spec returns returns-2)
+begin-spec = tie.close (tie.spec begun-requires granted-requires returns)

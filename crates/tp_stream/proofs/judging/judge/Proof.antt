@@ -104,25 +104,28 @@ returns-5 c =
     by-tests (at-second .before .before) .conflict (within at-second) (aligned at-third) (sym (c .before .before .conflicting .ensures) ∙ c .before .if4 .taken)
     ∙ ap (λ (n : ℕ). refused (conflicting-end n (header .offset + header .size))) (sym (c .previous-end .ensures))
 
+too-short-requires : tie.Need-too-short-requires
+too-short-requires c κs = tt
+
 cast-needed : tie.Need-cast-needed
-cast-needed c = omega (arith, small (c .before .before .before .before))
+cast-needed c = omega (arith, small (c .before .before .before .before .before .before))
 
 add-needed : tie.Need-add-needed
-add-needed c = omega (arith, small (c .before .before .before .before))
+add-needed c = omega (arith, small (c .before .before .before .before .before .before))
 
 returns-6 : tie.Need-returns-6
 returns-6 c =
-    let at-fourth = c .before in
+    let at-fourth = c .before .before in
     let at-third = at-fourth .before .before in
     let at-second = at-third .before .before in
-    by-tests (at-second .before .before) .short (within at-second) (aligned at-third) (sym (at-fourth .before .conflicting .ensures) ∙ at-fourth .if4 .left) (c .if5 .taken)
+    by-tests (at-second .before .before) .short (within at-second) (aligned at-third) (sym (at-fourth .before .conflicting .ensures) ∙ at-fourth .if4 .left) (sym (c .before .too-short .ensures) ∙ c .if5 .taken)
 
 returns-7 : tie.Need-returns-7
 returns-7 c =
-    let at-fourth = c .before in
+    let at-fourth = c .before .before in
     let at-third = at-fourth .before .before in
     let at-second = at-third .before .before in
-    by-tests (at-second .before .before) .passes (within at-second) (aligned at-third) (sym (at-fourth .before .conflicting .ensures) ∙ at-fourth .if4 .left) (c .if5 .left)
+    by-tests (at-second .before .before) .passes (within at-second) (aligned at-third) (sym (at-fourth .before .conflicting .ensures) ∙ at-fourth .if4 .left) (sym (c .before .too-short .ensures) ∙ c .if5 .left)
 
 pub judge-spec : {M : Type 1} → statement M
 judge-spec =
@@ -143,6 +146,7 @@ judge-spec =
     conflicting-requires
     previous-end-requires
     returns-5
+    too-short-requires
     cast-needed
     add-needed
     returns-6
