@@ -10,4 +10,4 @@ use Rattle.tp_machine.specs.Cases.{Cases}
 
 pub cases : Cases
 unfolding be16 be32 at16 at32 refuse_when_else_ tpType isSegment offset more payload withoutTp header pasted written any touch hullOf keep grow joined someTouch badRange badState judged after step begun begin fed complete ready taking
-cases = (refl, (refl, (refl, (refl, (refl, (refl, (refl, (refl, tt))))))))
+cases = (refl, (refl, (refl, (refl, (refl, (refl, (refl, (refl, (refl, (refl, tt))))))))))

@@ -1,12 +1,13 @@
--- Document 01's cases of joining ('Both sides of each line'), as one table. The first row is the marked one.
+-- Document 01's cases of joining ('Both sides of each line'), as one table. The first row is the marked one; the last two are 35 and the slip
+-- that 01 names: a gap-filler is accepted where 32 ranges are held.
 -- Assumes nothing: these are definitions.
-use Prim.Native.Nat.{ℕ, _+_}
+use Prim.Native.Nat.{ℕ, zero, suc, _+_, _*_}
 use mathlib.Core.Path.{_≡_}
 use mathlib.Core.Bool.{Bool, true, false, cond}
 use mathlib.Core.List.{List, [], _∷_, _++_}
 use lib.ListN.{replicate}
 use Rattle.numbers.specs.Bytes.{be32, at32}
-use Rattle.numbers.specs.Refusals.{segment-too-big, unaligned, conflicting-end}
+use Rattle.numbers.specs.Refusals.{segment-too-big, unaligned, conflicting-end, ranges-full}
 use Rattle.numbers.specs.Answers.{Verdict, pass, refused, All}
 use Rattle.tp_machine.specs.Machine.{Out, opened, fed}
 use Rattle.tp_machine.specs.Taking.{complete, taking}
@@ -22,6 +23,11 @@ _more-at_ n offset = segment n true offset
 
 abbrev pub _final-at_ : ℕ → ℕ → List ℕ
 _final-at_ n offset = segment n false offset
+
+-- n segments of 16 bytes, no two of which touch: at 0, 32, 64, ..
+abbrev pub apart : ℕ → List (List ℕ)
+apart zero = []
+apart (suc n) = 16 more-at (n * 32) ∷ apart n
 
 -- what is seen after a case's segments: the last answer, whether the stream is complete, and the report's length field (0 if none is given)
 pub record Seen : Type 0 where
@@ -48,6 +54,8 @@ table =
     ∷ case 64 (0 final-at 0 ∷ []) pass true 8
     ∷ case 32 (0 final-at 32 ∷ []) pass false 0
     ∷ case 32 (0 final-at 48 ∷ []) (refused (segment-too-big 48 0 32)) false 0
+    ∷ case 2048 (apart 32 ++ (16 more-at 1024 ∷ [])) (refused ranges-full) false 0
+    ∷ case 2048 (apart 32 ++ (16 more-at 16 ∷ [])) pass false 0
     ∷ []
 
 -- a fresh stream over a buffer of zeros, after the case's segments

@@ -1,9 +1,9 @@
 // Ranges of a payload that is being joined: which touch, and the joining step over an array by value, of which the first `count` are held.
 // (tp_range.rs)
 ghost use mathlib.Core.Path.{_≡_};
-ghost use Prim.Native.Nat.{_≤_, min, max};
-ghost use lib.ListN.{take, drop};
-ghost use Rattle.tp_machine.specs.Ranges.{any, touch, hullOf, someTouch};
+ghost use Prim.Native.Nat.{min, max};
+ghost use lib.ListN.{take};
+ghost use Rattle.tp_machine.specs.Ranges.{touch, hullOf, someTouch};
 ghost use Rattle.tp_machine.specs.Machine.{most};
 ghost use Rattle.tp_range.specs.Joining.{joinedIn};
 use tp_machine::TpRange;
@@ -95,22 +95,7 @@ pub fn join(ranges: [TpRange; MAX_RANGES], count: usize, new: TpRange) -> Joined
     }
 }
 
-// Whether r touches one of the ranges from `from` up to `held`.
-fn touches_from(ranges: [TpRange; MAX_RANGES], from: usize, held: usize, r: TpRange) -> bool
-    requires { ⌜ held ≤ most ⌝ }
-    ensures { λ b. ⌜ b ≡ any (touch r) (drop from (take held ranges)) ⌝ }
-{
-    let mut i = from;
-    while i < held {
-        if touches(r, ranges[i]) {
-            return true;
-        }
-        i += 1;
-    }
-    false
-}
-
-// Whether two of the first `count` touch.
+// Whether two of the first `count` touch: each is tried with those behind it.
 pub fn some_touch(ranges: [TpRange; MAX_RANGES], count: usize) -> bool
     ensures { λ b. ⌜ b ≡ someTouch (take count ranges) ⌝ }
 {
@@ -119,8 +104,12 @@ pub fn some_touch(ranges: [TpRange; MAX_RANGES], count: usize) -> bool
     while i < held {
         let r = ranges[i];
         i += 1;
-        if touches_from(ranges, i, held, r) {
-            return true;
+        let mut j = i;
+        while j < held {
+            if touches(r, ranges[j]) {
+                return true;
+            }
+            j += 1;
         }
     }
     false
