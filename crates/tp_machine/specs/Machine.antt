@@ -1,12 +1,12 @@
 -- The plain machine of one stream, over values: its state, the refusals of a segment in their order, and what one call leaves.
 -- Assumes nothing: these are definitions.
 use Prim.Native.Nat.{ℕ, _+_, _%_}
-use mathlib.Core.Bool.{Bool, true, false, _&&_, _||_, not, cond}
+use mathlib.Core.Bool.{Bool, false, _&&_, _||_, not, cond}
 use mathlib.Core.List.{List, [], _∷_}
 use lib.ListN.{length}
 use lib.Dec.{ltb, eqb}
 use Rattle.numbers.specs.Refusals.{not-a-segment, segment-too-big, unaligned, conflicting-end, buffer-too-short, ranges-full, limit-too-large, malformed-state}
-use Rattle.numbers.specs.Answers.{Answer, accepted, refused, Verdict, pass, refuse_when_else_}
+use Rattle.numbers.specs.Answers.{accepted, refused, Verdict, pass, refuse_when_else_}
 use Rattle.tp_machine.specs.declared.TpRange.{TpRange}
 use Rattle.tp_machine.specs.declared.TpEnd.{TpEnd}
 use Rattle.tp_machine.specs.declared.TpEnd.the-variants.{Unknown, Known}

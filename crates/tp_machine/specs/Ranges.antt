@@ -1,5 +1,5 @@
 -- Ranges and their joining. Assumes nothing: these are definitions.
-use Prim.Native.Nat.{ℕ, min, max}
+use Prim.Native.Nat.{min, max}
 use mathlib.Core.Bool.{Bool, true, false, _&&_, _||_}
 use mathlib.Core.List.{List, [], _∷_, _++_}
 use lib.Dec.{leb}

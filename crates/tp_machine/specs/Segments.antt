@@ -1,8 +1,8 @@
 -- One segment: 16 header bytes, 4 TP bytes, payload. What makes bytes one, its fields, and what it writes into a buffer.
 -- Assumes nothing: these are definitions.
 use Prim.Native.Nat.{ℕ, _+_, _*_, _-_, _/_, _%_}
-use mathlib.Core.Bool.{Bool, true, false, _&&_, _||_, not, cond}
-use mathlib.Core.List.{List, [], _∷_, _++_}
+use mathlib.Core.Bool.{Bool, _&&_, _||_, not, cond}
+use mathlib.Core.List.{List, _++_}
 use lib.ListN.{length, take, drop, getD, set}
 use lib.Dec.{ltb, eqb}
 use Rattle.numbers.specs.Bytes.{at32}

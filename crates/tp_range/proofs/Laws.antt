@@ -1,5 +1,5 @@
 -- Laws of ranges for the loops over an array of them: one range more, and what is left. Assumes nothing.
-use Prim.Native.Nat.{ℕ, zero, suc, _+_, _-_, _≤_, _<_, min}
+use Prim.Native.Nat.{ℕ, suc, _+_, _≤_, _<_, min}
 use mathlib.Core.Path.{_≡_, refl, sym, ap, _∙_}
 use mathlib.Core.Bool.{Bool, true, false}
 use mathlib.Core.List.{List, [], _∷_, _++_, append-nil, append-assoc}
@@ -9,11 +9,10 @@ use native.Mathlib.Omega.{arith}
 use borrow.Author.Tests.{lt-ltb, le-ltb, leb-true, leb-false}
 use lib.ListN.{length, take, drop, getD, set, length-append, length-take, length-drop, drop-of-length-le}
 use lib.Dec.{ltb, leb}
-use lib.Seq.{take-suc, drop-cons, length-take-le, slice-cons, take-all, set-append-seam}
+use lib.Seq.{take-suc, drop-cons, slice-cons, take-all, set-append-seam}
 use Rattle.tp_machine.specs.declared.TpRange.{TpRange}
 use Rattle.tp_machine.specs.Ranges.{any, touch, hullOf, unless, keep, growIf, grow, joined, someTouch}
 use Rattle.tp_machine.specs.Machine.{most}
-use Rattle.tp_range.specs.declared.Joined.{Joined}
 use Rattle.tp_range.specs.Joining.{placed, fitted, joinedIn}
 
 -- what a read past the end would give

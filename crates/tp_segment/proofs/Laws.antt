@@ -1,15 +1,15 @@
 -- Which test decides whether bytes are a segment, and what an answer pins. Assumes nothing.
-use Prim.Native.Nat.{ℕ, _+_, _-_, _%_, _≤_, _<_}
-use mathlib.Core.Path.{_≡_, refl, sym, ap, _∙_}
-use mathlib.Core.Bool.{Bool, true, false, _&&_, _||_, not, or-true}
+use Prim.Native.Nat.{ℕ, _-_, _%_, _≤_, _<_}
+use mathlib.Core.Path.{_≡_, refl, sym, _∙_}
+use mathlib.Core.Bool.{Bool, true, false, _&&_, _||_, not}
 use mathlib.Core.List.{List}
 use native.Mathlib.Omega.{arith}
 use borrow.Author.Tests.{lt-ltb, le-ltb, eq-eqb, ne-eqb, ltb-false, eqb-false, not-true}
 use lib.Dec.{ltb, eqb}
 use lib.ListN.{length, getD, length-drop}
-use Rattle.numbers.specs.Bytes.{at16, at32}
+use Rattle.numbers.specs.Bytes.{at32}
 use Rattle.numbers.specs.Refusals.{not-a-segment}
-use Rattle.numbers.specs.Answers.{Answer, accepted, refused, refuse_when_else_}
+use Rattle.numbers.specs.Answers.{accepted, refuse_when_else_}
 use Rattle.numbers.proofs.AnswerLaws.{when-hit, when-pass, test-accepted, accepted-inj, not-refused}
 use Rattle.tp_machine.specs.Segments.{isSegment, tpType, offset, more, payload, size}
 use Rattle.tp_segment.specs.declared.TpHeader.{TpHeader}

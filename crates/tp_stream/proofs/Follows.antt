@@ -1,10 +1,10 @@
 -- What the promises come to over the machine: the states begun and cleared are the machine's, and the part that is handed out after taking
 -- is the machine's report. Assumes nothing.
 use Prim.Native.Nat.{ℕ, _+_, _≤_}
-use mathlib.Core.Path.{_≡_, refl, sym, ap, _∙_}
-use mathlib.Core.List.{List, [], _∷_, _++_}
+use mathlib.Core.Path.{_≡_, refl, ap, _∙_}
+use mathlib.Core.List.{List}
 use native.Mathlib.Omega.{arith}
-use lib.ListN.{length, take, drop, length-append, length-take, length-drop}
+use lib.ListN.{length, length-append, length-take, length-drop}
 use Rattle.numbers.specs.Bytes.{be16, be32}
 use Rattle.numbers.specs.Answers.{Answer, accepted, refused}
 use Rattle.tp_machine.specs.Segments.{pasted}

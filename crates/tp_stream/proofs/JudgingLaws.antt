@@ -1,6 +1,6 @@
 -- The tests of a segment, one by one and in their order. Assumes nothing.
 use Prim.Native.Nat.{ℕ, _+_, _-_, _%_, _≤_, _<_}
-use mathlib.Core.Path.{_≡_, refl, sym, ap, subst, _∙_}
+use mathlib.Core.Path.{_≡_, refl, sym, subst}
 use mathlib.Core.Bool.{Bool, true, false, _&&_, not}
 use mathlib.Core.List.{List}
 use native.Mathlib.Omega.{arith}
@@ -9,7 +9,7 @@ use lib.Dec.{ltb, eqb}
 use Rattle.numbers.specs.Refusals.{not-a-segment, segment-too-big, unaligned, conflicting-end, buffer-too-short, malformed-state}
 use Rattle.numbers.specs.Answers.{refused, refuse_when_else_}
 use Rattle.tp_machine.specs.declared.TpEnd.{TpEnd}
-use Rattle.tp_machine.specs.declared.TpEnd.the-variants.{Unknown, Known}
+use Rattle.tp_machine.specs.declared.TpEnd.the-variants.{Known}
 use Rattle.tp_machine.specs.Segments.{isSegment, endOf}
 use Rattle.tp_machine.specs.Machine.{State, badState, conflicts, previous, judged}
 use Rattle.tp_segment.specs.declared.TpHeader.{TpHeader}

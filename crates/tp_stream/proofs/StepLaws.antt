@@ -1,14 +1,14 @@
 -- The ends of a call with a segment: refused, full after joining, or accepted. Assumes nothing.
 use Prim.Native.Nat.{ℕ, _+_, _≤_}
-use mathlib.Core.Path.{_≡_, refl, sym, ap, _∙_}
-use mathlib.Core.Bool.{Bool, true, false, cond}
+use mathlib.Core.Path.{_≡_, sym, ap, _∙_}
+use mathlib.Core.Bool.{true, false, cond}
 use mathlib.Core.List.{List}
 use native.Mathlib.Omega.{arith}
 use borrow.Author.Tests.{ltb-false}
 use lib.Dec.{ltb}
 use lib.ListN.{length, take}
 use Rattle.numbers.specs.Refusals.{ranges-full}
-use Rattle.numbers.specs.Answers.{refused, pass, refuse_when_else_}
+use Rattle.numbers.specs.Answers.{refused, pass}
 use Rattle.numbers.proofs.AnswerLaws.{when-hit, when-pass}
 use Rattle.tp_machine.specs.declared.TpRange.{TpRange}
 use Rattle.tp_machine.specs.declared.TpEnd.{TpEnd}
@@ -17,10 +17,9 @@ use Rattle.tp_machine.specs.Segments.{written}
 use Rattle.tp_machine.specs.Ranges.{joined}
 use Rattle.tp_machine.specs.Machine.{most, judged, taken, tooMany, after, step}
 use Rattle.tp_range.specs.declared.Joined.{Joined}
-use Rattle.tp_range.specs.Joining.{placed, fitted, joinedIn}
+use Rattle.tp_range.specs.Joining.{placed, joinedIn}
 use Rattle.tp_range.proofs.Laws.{fitted-full, fitted-placed}
 use Rattle.tp_segment.specs.declared.TpHeader.{TpHeader}
-use Rattle.tp_segment.specs.Reading.{headerOf}
 use Rattle.tp_stream.specs.declared.TpStream.{TpStream}
 use Rattle.tp_stream.specs.declared.TpRefusal.{TpRefusal}
 use Rattle.tp_stream.specs.declared.TpRefusal.the-variants.{RangesFull}

@@ -1,19 +1,19 @@
 -- Laws of a stream's record: the state that it holds, and a record with a state put into it. Assumes nothing.
 use Prim.Native.Nat.{ℕ, _+_, _-_, _≤_, _<_}
 use mathlib.Core.Path.{_≡_, refl, sym, ap, _∙_}
-use mathlib.Core.Bool.{Bool, true, false, cond}
-use mathlib.Core.List.{List, [], _∷_, _++_, append-nil, append-assoc, map}
+use mathlib.Core.Bool.{Bool, true, false}
+use mathlib.Core.List.{List, [], _++_, append-nil, append-assoc, map}
 use native.Mathlib.Omega.{arith}
 use borrow.Author.Tests.{leb-true, leb-false, lt-ltb, le-ltb}
-use lib.Dec.{leb, ltb}
+use lib.Dec.{leb}
 use lib.ListN.{length, take, drop, replicate, length-append, length-take, length-replicate, length-map, take-append-drop}
-use lib.Seq.{take-length, take-all, take-append-le, take-append-seam, length-take-le}
+use lib.Seq.{take-length, take-all, take-append-seam}
 use Rattle.tp_machine.specs.declared.TpRange.{TpRange}
 use Rattle.numbers.specs.Refusals.{limit-too-large}
 use Rattle.numbers.specs.Answers.{pass, refused}
 use Rattle.numbers.proofs.AnswerLaws.{when-hit, when-pass}
 use Rattle.tp_machine.specs.declared.TpEnd.the-variants.{Unknown}
-use Rattle.tp_machine.specs.Machine.{most, highest, State, fresh, begun, begin, clear}
+use Rattle.tp_machine.specs.Machine.{most, highest, State, begun, begin, clear}
 use Rattle.tp_range.specs.Joining.{placed}
 use Rattle.tp_range.proofs.Laws.{over, over-length, placed-over}
 use Rattle.tp_stream.specs.declared.TpStream.{TpStream}

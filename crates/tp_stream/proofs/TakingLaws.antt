@@ -12,8 +12,7 @@ use Rattle.numbers.specs.Refusals.{buffer-too-short, not-complete, malformed-st
 use Rattle.numbers.specs.Answers.{Answer, accepted, refused, refuse_when_else_}
 use Rattle.numbers.proofs.AnswerLaws.{when-accepted, accepted-inj}
 use Rattle.tp_machine.specs.declared.TpRange.{TpRange}
-use Rattle.tp_machine.specs.declared.TpEnd.{TpEnd}
-use Rattle.tp_machine.specs.declared.TpEnd.the-variants.{Unknown, Known}
+use Rattle.tp_machine.specs.declared.TpEnd.the-variants.{Known}
 use Rattle.tp_machine.specs.Segments.{pasted}
 use Rattle.tp_machine.specs.Ranges.{any}
 use Rattle.tp_machine.specs.Machine.{highest, State, badRange, badState}

@@ -7,8 +7,8 @@ use native.Mathlib.Omega.{arith}
 use lib.Dec.{eqb}
 use lib.ListN.{length, getD}
 use Rattle.numbers.specs.Refusals.{Refusal}
-use Rattle.numbers.specs.Answers.{Answer, accepted, refused}
-use Rattle.tp_machine.specs.Machine.{State, Out, clear}
+use Rattle.numbers.specs.Answers.{Answer, refused}
+use Rattle.tp_machine.specs.Machine.{Out, clear}
 use Rattle.tp_machine.specs.Taking.{complete, ready, report}
 use Rattle.tp_stream.specs.declared.TpStream.{TpStream}
 use Rattle.tp_stream.specs.declared.TpStep.{TpStep}

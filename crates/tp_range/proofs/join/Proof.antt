@@ -11,9 +11,8 @@ use lib.ListN.{length, take, getD, set, length-append, length-set}
 use Rattle.tp_machine.specs.declared.TpRange.{TpRange}
 use Rattle.tp_machine.specs.Machine.{most}
 use Rattle.tp_machine.specs.Ranges.{touch, hullOf, keep, grow}
-use Rattle.tp_range.specs.declared.Joined.{Joined}
 use Rattle.tp_range.specs.Joining.{joinedIn}
-use Rattle.tp_range.proofs.Laws.{none, over, over-snoc, keep-few, keep-touched, keep-apart, grow-touched, grow-apart, joined-room, joined-full}
+use Rattle.tp_range.proofs.Laws.{none, over, over-snoc, keep-touched, keep-apart, grow-touched, grow-apart, joined-room, joined-full}
 use Rattle.tp_range.proofs.join.Statement.{statement}
 use Rattle.tp_range.proofs.join.Tie as tie
 

@@ -1,9 +1,9 @@
 -- `tp_range::some_touch` meets its contract: those passed touch none behind them, so the answer for all is the answer for the rest. Assumes nothing.
-use Prim.Native.Nat.{ℕ, _+_, _-_, _≤_}
+use Prim.Native.Nat.{ℕ, _-_, _≤_}
 use mathlib.Core.Path.{_≡_, refl, sym, ap, _∙_}
 use borrow.Author.Needs.{needs}
 use native.Mathlib.Omega.{arith}
-use lib.ListN.{length, take, drop, getD}
+use lib.ListN.{length, take, drop}
 use Rattle.tp_machine.specs.Machine.{most}
 use Rattle.tp_machine.specs.Ranges.{any, touch, someTouch}
 use Rattle.tp_range.proofs.Laws.{none, take-places, any-hit, any-miss, any-end, touch-hit, touch-miss, touch-end}

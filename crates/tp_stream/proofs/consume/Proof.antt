@@ -1,7 +1,5 @@
 -- `tp_stream::consume` meets its contract: what judging says of each case. Assumes nothing.
-use Prim.Native.Nat.{ℕ}
-use mathlib.Core.Path.{sym, subst}
-use Rattle.tp_stream.specs.declared.judging.TpJudged.{TpJudged}
+use mathlib.Core.Path.{subst}
 use Rattle.tp_stream.specs.Stream.{view}
 use Rattle.tp_stream.specs.Promises.{Judges}
 use lib.ListN.{length}

@@ -1,7 +1,4 @@
 -- `tp_stream::end_after` meets its contract. Assumes nothing.
-use mathlib.Core.Path.{sym, ap}
-use mathlib.Core.Bool.{Bool, cond}
-use Rattle.tp_machine.specs.declared.TpEnd.the-variants.{Known}
 use borrow.Author.Needs.{needs}
 use Rattle.tp_stream.proofs.end_after.Statement.{statement}
 use Rattle.tp_stream.proofs.end_after.Tie as tie

@@ -1,9 +1,7 @@
 -- `tp_stream::report` meets its contract. Assumes nothing.
-use Prim.Native.Nat.{ℕ, _+_, _≤_}
+use Prim.Native.Nat.{ℕ}
 use mathlib.Core.Path.{_≡_, sym, ap, _∙_}
-use mathlib.Core.List.{List}
-use native.Mathlib.Omega.{arith}
-use lib.ListN.{length, take}
+use lib.ListN.{length}
 use lib.Seq.{length-take-le}
 use Rattle.numbers.specs.Answers.{Answer, accepted}
 use Rattle.tp_machine.specs.Taking.{ready, report}

@@ -8,7 +8,6 @@ use Rattle.numbers.specs.Refusals.{conflicting-end}
 use Rattle.numbers.specs.Answers.{refused}
 use Rattle.tp_machine.specs.Machine.{highest, badState}
 use Rattle.tp_segment.specs.declared.TpHeader.{TpHeader}
-use Rattle.tp_segment.specs.declared.TpSegment.{TpSegment}
 use Rattle.tp_segment.specs.Reading.{told}
 use Rattle.tp_segment.proofs.Laws.{reading-not, reading-good}
 use Rattle.tp_stream.specs.Stream.{view}

@@ -1,6 +1,6 @@
 -- `tp_stream::judging::not_aligned` meets its contract. Assumes nothing.
 use Prim.Native.Nat.{_%_}
-use mathlib.Core.Path.{_≡_, sym, ap}
+use mathlib.Core.Path.{sym, ap}
 use mathlib.Core.Bool.{Bool, _&&_, not}
 use lib.Dec.{eqb}
 use borrow.Author.Needs.{needs}

@@ -1,7 +1,4 @@
 -- `tp_stream::malformed::end_past` meets its contract. Assumes nothing.
-use mathlib.Core.Path.{sym, ap}
-use Rattle.tp_machine.specs.declared.TpEnd.{TpEnd}
-use Rattle.tp_machine.specs.Machine.{endPast}
 use borrow.Author.Needs.{needs}
 use Rattle.tp_stream.proofs.malformed.end_past.Statement.{statement}
 use Rattle.tp_stream.proofs.malformed.end_past.Tie as tie

@@ -1,11 +1,10 @@
 -- `tp_stream::writing::put_header` meets its contract: the copy, and then byte 14. Assumes nothing.
-use Prim.Native.Nat.{ℕ, _≤_, _<_}
-use mathlib.Core.Path.{_≡_, sym, ap, _∙_}
-use mathlib.Core.List.{List}
+use Prim.Native.Nat.{_<_}
+use mathlib.Core.Path.{sym, _∙_}
 use native.Mathlib.Omega.{arith}
 use lib.ListN.{length, take, getD, set}
 use lib.Seq.{length-take-le}
-use Rattle.tp_machine.specs.Segments.{header, pasted, withoutTp}
+use Rattle.tp_machine.specs.Segments.{header, withoutTp}
 use Rattle.tp_stream.proofs.WritingLaws.{head-pasted}
 use borrow.Author.Needs.{needs}
 use Rattle.tp_stream.proofs.writing.put_header.Statement.{statement}

@@ -1,5 +1,5 @@
 -- `tp_stream::writing::write` meets its contract: where the arms meet the header is there if the offset is 0. Assumes nothing.
-use Prim.Native.Nat.{ℕ, _+_, _-_, _≤_, _<_}
+use Prim.Native.Nat.{ℕ, _+_}
 use mathlib.Core.Path.{_≡_, sym, ap, _∙_}
 use mathlib.Core.Bool.{Bool, cond}
 use mathlib.Core.Logic.{⊎-elim}
@@ -7,7 +7,7 @@ use mathlib.Core.List.{List}
 use native.Mathlib.Omega.{arith}
 use borrow.Author.Tests.{eq-eqb, ne-eqb}
 use lib.Dec.{eqb}
-use lib.ListN.{length, take, drop, length-drop}
+use lib.ListN.{length, drop, length-drop}
 use Rattle.tp_machine.specs.Segments.{offset, payload, header, pasted, written}
 use Rattle.tp_stream.proofs.WritingLaws.{tail-all}
 use borrow.Author.Needs.{needs}
