@@ -37,7 +37,8 @@ module _ (s : TpStream) (seg buf : List ℕ) where
   ran-refused r e = record { steps = rw e; places = sym (stored-view s) }
 
   -- an acceptance hands the machine's state back, put into the record
-  ran-accepted : (t : TpStream) (b : List ℕ) → judged (view s) seg (length buf) ≡ pass → t ≡ stored s (taken (view s) seg) → length (taken (view s) seg .ranges) ≤ length (s .ranges) → b ≡ written buf seg
+  ran-accepted : (t : TpStream) (b : List ℕ) → judged (view s) seg (length buf) ≡ pass → t ≡ stored s (taken (view s) seg)
+      → length (taken (view s) seg .ranges) ≤ length (s .ranges) → b ≡ written buf seg
       → Ran s seg buf (record { answer = Accepted; stream = t }) b
   unfolding step after
   ran-accepted t b e h few w =
@@ -45,7 +46,9 @@ module _ (s : TpStream) (seg buf : List ℕ) where
       record { steps = rw e (λ i. record { answer = pass; state = v i; buffer = w i }); places = h ∙ ap (stored s) (sym v) }
 
   -- after joining
-  module _ (h : TpHeader) (passed : Passed (view s) seg (length buf) h) (long : length (s .ranges) ≡ most) (g : Joined) (is : g ≡ joinedIn (s .ranges) (s .count) (record { start = h .offset; end = h .offset + h .size })) where
+  module _
+      (h : TpHeader) (passed : Passed (view s) seg (length buf) h) (long : length (s .ranges) ≡ most)
+      (g : Joined) (is : g ≡ joinedIn (s .ranges) (s .count) (record { start = h .offset; end = h .offset + h .size })) where
     abbrev rs : List TpRange
     rs = joined (record { start = h .offset; end = h .offset + h .size }) (take (s .count) (s .ranges))
 

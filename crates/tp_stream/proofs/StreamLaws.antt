@@ -82,7 +82,8 @@ pub cleared : (s : TpStream) → record { limit = s .limit; ranges = s .ranges; 
 unfolding clear
 cleared s = λ i. record { limit = s .limit; ranges = keeps-places (s .ranges) i; count = 0; end = Unknown }
 
-pub began : (limit l : ℕ) (a : TpAnswer) → answerOf a ≡ begun limit → l ≡ begin limit .limit → Began limit (record { answer = a; stream = record { limit = l; ranges = replicate most none; count = 0; end = Unknown } })
+pub began : (limit l : ℕ) (a : TpAnswer) → answerOf a ≡ begun limit → l ≡ begin limit .limit
+    → Began limit (record { answer = a; stream = record { limit = l; ranges = replicate most none; count = 0; end = Unknown } })
 unfolding begin blank
 began limit l a e q = record { answers = e; begins = λ i. record { limit = q i; ranges = keeps-places (replicate most none) i; count = 0; end = Unknown } }
 

@@ -25,17 +25,20 @@ record Held (new : TpRange) (array : List TpRange) (held : ℕ) (out : List TpRa
   grows : grown ≡ grow new new (take i array)
 
 -- after the loop all that are held were looked at: the grown range has a place, or has none
-module _ (new : TpRange) (array : List TpRange) (count held : ℕ) (out : List TpRange) (kept : ℕ) (grown : TpRange) (i : ℕ) (long : length array ≡ most) (H : Held new array held out kept grown i) (ends : held ≤ i) (held-is : held ≡ min count most) where
-  all : Held new array held out kept grown (min count most)
-  all = subst (λ (j : ℕ). Held new array held out kept grown j) (le-antisymm (H .upto) ends ∙ held-is) H
+module _
+    (new : TpRange) (array : List TpRange) (count held : ℕ) (out : List TpRange) (kept : ℕ) (grown : TpRange) (i : ℕ)
+    (long : length array ≡ most) (H : Held new array held out kept grown i) (ends : held ≤ i) (held-is : held ≡ min count most)
+  where
+    all : Held new array held out kept grown (min count most)
+    all = subst (λ (j : ℕ). Held new array held out kept grown j) (le-antisymm (H .upto) ends ∙ held-is) H
 
-  with-place : kept < most → record { full = false; ranges = set out kept grown; count = kept + 1 } ≡ joinedIn array count new
-  with-place h =
-      (λ j. record { full = false; ranges = set (all .lays j) (all .counts j) (all .grows j); count = all .counts j + 1 })
-      ∙ joined-room array count long new (omega (arith, all .counts))
+    with-place : kept < most → record { full = false; ranges = set out kept grown; count = kept + 1 } ≡ joinedIn array count new
+    with-place h =
+        (λ j. record { full = false; ranges = set (all .lays j) (all .counts j) (all .grows j); count = all .counts j + 1 })
+        ∙ joined-room array count long new (omega (arith, all .counts))
 
-  without : most ≤ kept → record { full = true; ranges = array; count = count } ≡ joinedIn array count new
-  without h = joined-full array count long new (omega (arith, all .counts))
+    without : most ≤ kept → record { full = true; ranges = array; count = count } ≡ joinedIn array count new
+    without h = joined-full array count long new (omega (arith, all .counts))
 
 abbrev Inv-loop : tie.InvT-loop
 Inv-loop count new ranges held out₀ kept₀ grown₀ i₀ out kept grown i = Held new ranges held out kept grown i
