@@ -13,7 +13,7 @@ use tp_range::MAX_RANGES;
 use tp_segment::TpHeader;
 
 mod malformed; // malformed.rt: answer 38
-mod judging; // judging.rt: answers 38 and 30 to 34 of a segment
+mod judging; // judging.rt: answers 38 and 30 to 34 of a segment, and 36
 mod writing; // writing.rt: what is written into the buffer
 mod taking; // taking.rt: answers 38, 37 and 34 of taking
 
@@ -55,6 +55,7 @@ pub enum TpRefusal {
     MalformedState,
 }
 
+// What beginning and consuming answer.
 pub enum TpAnswer {
     Accepted,
     Refused(TpRefusal),
