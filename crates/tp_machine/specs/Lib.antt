@@ -1,0 +1,5 @@
+pub mod Segments
+pub mod Ranges
+pub mod Machine
+pub mod Taking
+pub mod Cases

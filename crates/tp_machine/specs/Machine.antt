@@ -1,0 +1,126 @@
+-- The plain machine of one stream, over values: its state, the refusals of a segment in their order, and what one call leaves.
+-- Assumes nothing: these are definitions.
+use Prim.Native.Nat.{ℕ, _+_, _%_}
+use mathlib.Core.Bool.{Bool, false, _&&_, _||_, not, cond}
+use mathlib.Core.List.{List, [], _∷_}
+use lib.ListN.{length}
+use lib.Dec.{ltb, eqb}
+use Rattle.numbers.specs.Refusals.{not-a-segment, segment-too-big, unaligned, conflicting-end, buffer-too-short, ranges-full, limit-too-large, malformed-state}
+use Rattle.numbers.specs.Answers.{accepted, refused, Verdict, pass, refuse_when_else_}
+use Rattle.tp_machine.specs.declared.TpRange.{TpRange}
+use Rattle.tp_machine.specs.declared.TpEnd.{TpEnd}
+use Rattle.tp_machine.specs.declared.TpEnd.the-variants.{Unknown, Known}
+use Rattle.tp_machine.specs.Segments.{isSegment, offset, more, size, endOf, written}
+use Rattle.tp_machine.specs.Ranges.{any, joined, someTouch}
+
+-- how many ranges are held at most, and the highest payload limit
+abbrev pub most : ℕ
+most = 32
+
+abbrev pub highest : ℕ
+highest = 65520
+
+pub record State : Type 0 where
+  pub limit : ℕ
+  pub ranges : List TpRange
+  pub end : TpEnd
+
+-- a state that holds nothing
+abbrev pub fresh : ℕ → State
+fresh limit = record { limit = limit; ranges = []; end = Unknown }
+
+-- ---- 38: the states that are malformed
+
+-- a range that ends before its start or past the limit
+unfoldable pub badRange : State → TpRange → Bool
+badRange p r = ltb (r .end) (r .start) || ltb (p .limit) (r .end)
+
+-- a known end past x
+abbrev pub endPast : TpEnd → ℕ → Bool
+endPast Unknown x = false
+endPast (Known e) x = ltb x e
+
+-- more than `most` ranges, a limit above the highest, an end past the limit, a bad range, or two that touch
+unfoldable pub badState : State → Bool
+badState p = ltb most (length (p .ranges)) || (ltb highest (p .limit) || (endPast (p .end) (p .limit) || (any (badRange p) (p .ranges) || someTouch (p .ranges))))
+
+-- ---- 31 to 35: what is wrong with a segment, in a state and a buffer of `room` bytes
+
+abbrev pub tooBig : State → List ℕ → Bool
+tooBig p seg = ltb (p .limit) (endOf seg)
+
+abbrev pub notAligned : List ℕ → Bool
+notAligned seg = more seg && not (eqb (size seg % 16) 0)
+
+-- an end is known, and the new end x is past it, or this is a final segment with another end
+abbrev pub conflicts : TpEnd → Bool → ℕ → Bool
+conflicts Unknown m x = false
+conflicts (Known e) m x = ltb e x || (not m && not (eqb x e))
+
+abbrev pub previous : TpEnd → ℕ
+previous Unknown = 0
+previous (Known e) = e
+
+abbrev pub tooShort : List ℕ → ℕ → Bool
+tooShort seg room = ltb room (16 + endOf seg)
+
+-- the state after a segment was accepted: its range joined, and a final segment sets the end
+abbrev pub taken : State → List ℕ → State
+taken p seg = record {
+  limit = p .limit;
+  ranges = joined (record { start = offset seg; end = endOf seg }) (p .ranges);
+  end = cond (more seg) (p .end) (Known (endOf seg));
+}
+
+-- more ranges than may be held, after joining
+abbrev pub tooMany : State → List ℕ → Bool
+tooMany p seg = ltb most (length (taken p seg .ranges))
+
+-- the first refusal of a segment
+unfoldable pub judged : State → List ℕ → ℕ → Verdict
+judged p seg room =
+    refuse malformed-state when badState p else
+    refuse not-a-segment when not (isSegment seg) else
+    refuse segment-too-big (offset seg) (size seg) (p .limit) when tooBig p seg else
+    refuse unaligned (offset seg) (size seg) when notAligned seg else
+    refuse conflicting-end (previous (p .end)) (endOf seg) when conflicts (p .end) (more seg) (endOf seg) else
+    refuse buffer-too-short (16 + endOf seg) when tooShort seg room else
+    refuse ranges-full when tooMany p seg else
+    pass
+
+-- ---- the calls
+
+-- what a call leaves: its answer, and the state and the buffer after it
+pub record Out : Type 0 where
+  pub answer : Verdict
+  pub state : State
+  pub buffer : List ℕ
+
+-- a refusal leaves state and buffer as they were
+unfoldable pub after : Verdict → State → List ℕ → List ℕ → Out
+after (accepted u) p seg buf = record { answer = pass; state = taken p seg; buffer = written buf seg }
+after (refused r) p seg buf = record { answer = refused r; state = p; buffer = buf }
+
+-- one segment comes
+unfoldable pub step : State → List ℕ → List ℕ → Out
+step p seg buf = after (judged p seg (length buf)) p seg buf
+
+-- a stream is begun: 36, and the state given back then has limit 0
+unfoldable pub begun : ℕ → Verdict
+begun limit = refuse limit-too-large limit when ltb highest limit else pass
+
+unfoldable pub begin : ℕ → State
+begin limit = fresh (cond (ltb highest limit) 0 limit)
+
+-- a fresh stream over a buffer
+abbrev pub opened : ℕ → List ℕ → Out
+opened limit buf = record { answer = begun limit; state = begin limit; buffer = buf }
+
+-- segments come one after the other: what the last call leaves
+unfoldable pub fed : Out → List (List ℕ) → Out
+fed o [] = o
+fed o (seg ∷ segs) = fed (step (o .state) seg (o .buffer)) segs
+
+-- clearing forgets ranges and end, and keeps the limit
+unfoldable pub clear : State → State
+clear p = fresh (p .limit)

@@ -1,0 +1,48 @@
+-- Ranges and their joining. Assumes nothing: these are definitions.
+use Prim.Native.Nat.{min, max}
+use mathlib.Core.Bool.{Bool, true, false, _&&_, _||_}
+use mathlib.Core.List.{List, [], _∷_, _++_}
+use lib.Dec.{leb}
+use Rattle.tp_machine.specs.declared.TpRange.{TpRange}
+
+-- whether one element passes the test
+unfoldable pub any : {A : Type 0} → (A → Bool) → List A → Bool
+any f [] = false
+any f (x ∷ xs) = f x || any f xs
+
+-- neither ends before the other begins: they join (touching counts)
+unfoldable pub touch : TpRange → TpRange → Bool
+touch a b = leb (a .start) (b .end) && leb (b .start) (a .end)
+
+-- the least range that holds both
+unfoldable pub hullOf : TpRange → TpRange → TpRange
+hullOf a b = record { start = min (a .start) (b .start); end = max (a .end) (b .end) }
+
+-- r in front of rs where the test fails
+abbrev pub unless : Bool → TpRange → List TpRange → List TpRange
+unless true r rs = rs
+unless false r rs = r ∷ rs
+
+-- those that n does not touch, in their order
+unfoldable pub keep : TpRange → List TpRange → List TpRange
+keep n [] = []
+keep n (r ∷ rs) = unless (touch n r) r (keep n rs)
+
+-- g grown by r where the test passes
+abbrev pub growIf : Bool → TpRange → TpRange → TpRange
+growIf true g r = hullOf g r
+growIf false g r = g
+
+-- g grown by each of those that n touches
+unfoldable pub grow : TpRange → TpRange → List TpRange → TpRange
+grow n g [] = g
+grow n g (r ∷ rs) = grow n (growIf (touch n r) g r) rs
+
+-- the ranges after n has come: those that it does not touch, and it with those that it touches as one
+unfoldable pub joined : TpRange → List TpRange → List TpRange
+joined n rs = keep n rs ++ (grow n n rs ∷ [])
+
+-- two of a list touch
+unfoldable pub someTouch : List TpRange → Bool
+someTouch [] = false
+someTouch (r ∷ rs) = any (touch r) rs || someTouch rs

@@ -1,0 +1,176 @@
+-- Laws of ranges for the loops over an array of them: one range more, and what is left. Assumes nothing.
+use Prim.Native.Nat.{ℕ, suc, _+_, _≤_, _<_, min}
+use mathlib.Core.Path.{_≡_, refl, sym, ap, _∙_}
+use mathlib.Core.Bool.{Bool, true, false}
+use mathlib.Core.List.{List, [], _∷_, _++_, append-nil, append-assoc}
+use native.Mathlib.Numerals.{add-one}
+use native.Mathlib.Nat.{min-eq-left, min-eq-right}
+use native.Mathlib.Omega.{arith}
+use borrow.Author.Tests.{lt-ltb, le-ltb, leb-true, leb-false}
+use lib.ListN.{length, take, drop, getD, set, length-append, length-take, length-drop, drop-of-length-le}
+use lib.Dec.{ltb, leb}
+use lib.Seq.{take-suc, drop-cons, slice-cons, take-all, set-append-seam}
+use Rattle.tp_machine.specs.declared.TpRange.{TpRange}
+use Rattle.tp_machine.specs.Ranges.{any, touch, hullOf, unless, keep, growIf, grow, joined, someTouch}
+use Rattle.tp_machine.specs.Machine.{most}
+use Rattle.tp_range.specs.Joining.{placed, fitted, joinedIn}
+
+-- what a read past the end would give
+abbrev pub none : TpRange
+none = record { start = 0; end = 0 }
+
+-- two ranges are equal by their fields
+pub range-eq : (a b : TpRange) → a .start ≡ b .start → a .end ≡ b .end → a ≡ b
+range-eq a b p q = λ i. record { start = p i; end = q i }
+
+-- ---- one range more at the end
+unless-append : (b : Bool) (r : TpRange) (xs ys : List TpRange) → unless b r xs ++ ys ≡ unless b r (xs ++ ys)
+unless-append true r xs ys = refl
+unless-append false r xs ys = refl
+
+keep-snoc : (n : TpRange) (xs : List TpRange) (r : TpRange) → keep n (xs ++ (r ∷ [])) ≡ keep n xs ++ unless (touch n r) r []
+unfolding keep
+keep-snoc n [] r = refl
+keep-snoc n (x ∷ xs) r = ap (unless (touch n x) x) (keep-snoc n xs r) ∙ sym (unless-append (touch n x) x (keep n xs) (unless (touch n r) r []))
+
+grow-snoc : (n g : TpRange) (xs : List TpRange) (r : TpRange) → grow n g (xs ++ (r ∷ [])) ≡ growIf (touch n r) (grow n g xs) r
+unfolding grow
+grow-snoc n g [] r = refl
+grow-snoc n g (x ∷ xs) r = grow-snoc n (growIf (touch n x) g x) xs r
+
+unless-length : (b : Bool) (r : TpRange) (xs : List TpRange) (k : ℕ) → length xs ≤ k → length (unless b r xs) ≤ suc k
+unless-length true r xs k h = omega arith
+unless-length false r xs k h = omega arith
+
+-- no more are kept than there were
+keep-length : (n : TpRange) (xs : List TpRange) → length (keep n xs) ≤ length xs
+unfolding keep
+keep-length n [] = omega arith
+keep-length n (x ∷ xs) = unless-length (touch n x) x (keep n xs) (length xs) (keep-length n xs)
+
+pub keep-few : (n : TpRange) (i : ℕ) (rs : List TpRange) → length (keep n (take i rs)) ≤ i
+keep-few n i rs = omega (arith, keep-length n (take i rs), length-take i rs)
+
+-- the range that follows the first i of rs, and what it adds
+module _ (n : TpRange) (rs : List TpRange) (i : ℕ) (d : TpRange) (h : i < length rs) where
+  one-more : take (i + 1) rs ≡ take i rs ++ (getD rs i d ∷ [])
+  one-more = rw add-one (take-suc rs i d h)
+
+  pub keep-touched : touch n (getD rs i d) ≡ true → keep n (take (i + 1) rs) ≡ keep n (take i rs)
+  keep-touched e = rw (one-more, keep-snoc, e) (append-nil _)
+
+  pub keep-apart : touch n (getD rs i d) ≡ false → keep n (take (i + 1) rs) ≡ keep n (take i rs) ++ (getD rs i d ∷ [])
+  keep-apart e = rw (one-more, keep-snoc, e)
+
+  pub grow-touched : (g : TpRange) → touch n (getD rs i d) ≡ true → grow n g (take (i + 1) rs) ≡ hullOf (grow n g (take i rs)) (getD rs i d)
+  grow-touched g e = rw (one-more, grow-snoc, e)
+
+  pub grow-apart : (g : TpRange) → touch n (getD rs i d) ≡ false → grow n g (take (i + 1) rs) ≡ grow n g (take i rs)
+  grow-apart g e = rw (one-more, grow-snoc, e)
+
+-- ---- an array with ranges laid over its first places
+abbrev pub over : List TpRange → List TpRange → List TpRange
+over rs array = rs ++ drop (length rs) array
+
+-- a store right behind them lays one more
+pub over-snoc : (rs array : List TpRange) (a : TpRange) → length rs < length array → set (over rs array) (length rs) a ≡ over (rs ++ (a ∷ [])) array
+over-snoc rs array a h =
+    ap (λ (l : List TpRange). set (rs ++ l) (length rs) a) (drop-cons array (length rs) none h)
+    ∙ set-append-seam rs (getD array (length rs) none) (drop (suc (length rs)) array) a
+    ∙ sym (append-assoc rs (a ∷ []) (drop (length (rs ++ (a ∷ []))) array)
+    ∙ ap (λ (n : ℕ). rs ++ (a ∷ drop n array)) (length-append rs (a ∷ []) ∙ add-one (length rs)))
+
+pub over-length : (rs array : List TpRange) → length rs ≤ length array → length (over rs array) ≡ length array
+over-length rs array h = length-append rs (drop (length rs) array) ∙ omega (arith, length-drop (length rs) array)
+
+pub placed-over : (array rs : List TpRange) → length rs ≤ length array → placed array rs ≡ over rs array
+unfolding placed
+placed-over array rs h = take-all (length array) (over rs array) (omega (arith, over-length rs array h))
+
+-- a count past the array's end means all of it
+pub take-places : (array : List TpRange) (count : ℕ) → length array ≡ most → take (min count most) array ≡ take count array
+take-places array count l = go (leb count most) refl
+  where
+    go : (b : Bool) → leb count most ≡ b → take (min count most) array ≡ take count array
+    go true e = ap (λ (n : ℕ). take n array) (min-eq-left (leb-true count most e))
+    go false e =
+        let h : most ≤ count = omega (arith, leb-false count most e) in
+        ap (λ (n : ℕ). take n array) (min-eq-right h) ∙ take-all most array (omega arith) ∙ sym (take-all count array (omega arith))
+
+-- ---- the end of joining: the grown range goes behind those that are kept, where there is a place
+module _ (array : List TpRange) (count : ℕ) (long : length array ≡ most) where
+  fitted-in : (rs : List TpRange) → length rs ≤ most → record { full = false; ranges = over rs array; count = length rs } ≡ fitted array count rs
+  fitted-in rs h = rw (le-ltb most (length rs) h) (λ i. record { full = false; ranges = sym (placed-over array rs (omega arith)) i; count = length rs })
+
+  fitted-out : (rs : List TpRange) → most < length rs → record { full = true; ranges = array; count = count } ≡ fitted array count rs
+  fitted-out rs h = rw (lt-ltb most (length rs) h)
+
+  module _ (new : TpRange) where
+    abbrev pub keeps : List TpRange
+    keeps = keep new (take (min count most) array)
+
+    abbrev pub grows : TpRange
+    grows = grow new new (take (min count most) array)
+
+    all-joined : keeps ++ (grows ∷ []) ≡ joined new (take count array)
+    unfolding joined
+    all-joined = ap (joined new) (take-places array count long)
+
+    all-count : length (keeps ++ (grows ∷ [])) ≡ length keeps + 1
+    all-count = length-append keeps (grows ∷ [])
+
+    pub joined-room : length keeps < most → record { full = false; ranges = set (over keeps array) (length keeps) grows; count = length keeps + 1 } ≡ joinedIn array count new
+    unfolding joinedIn
+    joined-room h =
+        (λ i. record { full = false; ranges = over-snoc keeps array grows (omega arith) i; count = sym all-count i })
+        ∙ fitted-in (keeps ++ (grows ∷ [])) (omega (arith, all-count)) ∙ ap (fitted array count) all-joined
+
+    pub joined-full : most ≤ length keeps → record { full = true; ranges = array; count = count } ≡ joinedIn array count new
+    unfolding joinedIn
+    joined-full h = fitted-out (keeps ++ (grows ∷ [])) (omega (arith, all-count)) ∙ ap (fitted array count) all-joined
+
+-- what joining gives, by whether there is a place
+pub fitted-full : (array : List TpRange) (count : ℕ) (rs : List TpRange) → fitted array count rs .full ≡ ltb most (length rs)
+fitted-full array count rs = go (ltb most (length rs)) refl
+  where
+    go : (b : Bool) → ltb most (length rs) ≡ b → fitted array count rs .full ≡ b
+    go true e = rw e
+    go false e = rw e
+
+pub fitted-placed : (array : List TpRange) (count : ℕ) (rs : List TpRange) → ltb most (length rs) ≡ false → fitted array count rs ≡ record { full = false; ranges = placed array rs; count = length rs }
+fitted-placed array count rs e = rw e
+
+-- ---- what is left of the first n from i on
+module _ (rs : List TpRange) (i n : ℕ) (d : TpRange) (h : i < n) (k : n ≤ length rs) where
+  front : drop i (take n rs) ≡ getD rs i d ∷ drop (i + 1) (take n rs)
+  front = rw add-one (slice-cons i n rs d h k)
+
+  -- a test of each: one passes here, or none does and the rest tells
+  pub any-hit : (f : TpRange → Bool) → f (getD rs i d) ≡ true → any f (drop i (take n rs)) ≡ true
+  unfolding any
+  any-hit f e = rw (front, e)
+
+  pub any-miss : (f : TpRange → Bool) → f (getD rs i d) ≡ false → any f (drop (i + 1) (take n rs)) ≡ any f (drop i (take n rs))
+  unfolding any
+  any-miss f e = rw (front, e)
+
+  pub touch-hit : any (touch (getD rs i d)) (drop (i + 1) (take n rs)) ≡ true → someTouch (drop i (take n rs)) ≡ true
+  unfolding someTouch
+  touch-hit e = rw (front, e)
+
+  pub touch-miss : any (touch (getD rs i d)) (drop (i + 1) (take n rs)) ≡ false → someTouch (drop (i + 1) (take n rs)) ≡ someTouch (drop i (take n rs))
+  unfolding someTouch
+  touch-miss e = rw (front, e)
+
+past-end : (rs : List TpRange) (i n : ℕ) → n ≤ i → drop i (take n rs) ≡ []
+past-end rs i n h =
+    let k : length (take n rs) ≤ i = simp length-take (omega arith) in
+    drop-of-length-le (take n rs) k
+
+pub any-end : (f : TpRange → Bool) (rs : List TpRange) (i n : ℕ) → n ≤ i → any f (drop i (take n rs)) ≡ false
+unfolding any
+any-end f rs i n h = rw (past-end rs i n h)
+
+pub touch-end : (rs : List TpRange) (i n : ℕ) → n ≤ i → someTouch (drop i (take n rs)) ≡ false
+unfolding someTouch
+touch-end rs i n h = rw (past-end rs i n h)

@@ -1,0 +1,18 @@
+-- `tp_range::hull` meets its contract: field by field. Assumes nothing.
+use Rattle.tp_machine.specs.Ranges.{hullOf}
+use Rattle.tp_range.proofs.Laws.{range-eq}
+use Rattle.tp_range.proofs.hull.Statement.{statement}
+use Rattle.tp_range.proofs.hull.Tie as tie
+
+least-requires : tie.Need-least-requires
+least-requires c κs = tt
+
+greatest-requires : tie.Need-greatest-requires
+greatest-requires c κs = tt
+
+returns : tie.Need-returns
+unfolding hullOf
+returns c = range-eq _ _ (c .before .least .ensures) (c .greatest .ensures)
+
+pub hull-spec : {M : Type 1} → statement M
+hull-spec = tie.close (tie.spec least-requires greatest-requires returns)

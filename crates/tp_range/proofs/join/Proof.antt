@@ -1,0 +1,174 @@
+-- `tp_range::join` meets its contract. In the loop `out` is the array with those of the first i that `new` does not touch laid over it, and
+-- `grown` is `new` grown by the others. Assumes nothing.
+use Prim.Native.Nat.{ℕ, _+_, _-_, _≤_, _<_, min}
+use mathlib.Core.Path.{_≡_, refl, sym, ap, subst, _∙_}
+use mathlib.Core.Bool.{true, false}
+use mathlib.Core.List.{List, [], _∷_, _++_}
+use borrow.Author.Needs.{needs}
+use native.Mathlib.Nat.{le-antisymm}
+use native.Mathlib.Omega.{arith}
+use lib.ListN.{length, take, getD, set, length-append, length-set}
+use Rattle.tp_machine.specs.declared.TpRange.{TpRange}
+use Rattle.tp_machine.specs.Machine.{most}
+use Rattle.tp_machine.specs.Ranges.{touch, hullOf, keep, grow}
+use Rattle.tp_range.specs.Joining.{joinedIn}
+use Rattle.tp_range.proofs.Laws.{none, over, over-snoc, keep-touched, keep-apart, grow-touched, grow-apart, joined-room, joined-full}
+use Rattle.tp_range.proofs.join.Statement.{statement}
+use Rattle.tp_range.proofs.join.Tie as tie
+
+record Held (new : TpRange) (array : List TpRange) (held : ℕ) (out : List TpRange) (kept : ℕ) (grown : TpRange) (i : ℕ) : Type 0 where
+  upto : i ≤ held
+  few : kept ≤ i
+  long : length out ≡ most
+  counts : kept ≡ length (keep new (take i array))
+  lays : out ≡ over (keep new (take i array)) array
+  grows : grown ≡ grow new new (take i array)
+
+-- after the loop all that are held were looked at: the grown range has a place, or has none
+module _
+    (new : TpRange) (array : List TpRange) (count held : ℕ) (out : List TpRange) (kept : ℕ) (grown : TpRange) (i : ℕ)
+    (long : length array ≡ most) (H : Held new array held out kept grown i) (ends : held ≤ i) (held-is : held ≡ min count most)
+  where
+    all : Held new array held out kept grown (min count most)
+    all = subst (λ (j : ℕ). Held new array held out kept grown j) (le-antisymm (H .upto) ends ∙ held-is) H
+
+    with-place : kept < most → record { full = false; ranges = set out kept grown; count = kept + 1 } ≡ joinedIn array count new
+    with-place h =
+        (λ j. record { full = false; ranges = set (all .lays j) (all .counts j) (all .grows j); count = all .counts j + 1 })
+        ∙ joined-room array count long new (omega (arith, all .counts))
+
+    without : most ≤ kept → record { full = true; ranges = array; count = count } ≡ joinedIn array count new
+    without h = joined-full array count long new (omega (arith, all .counts))
+
+abbrev Inv-loop : tie.InvT-loop
+Inv-loop count new ranges held out₀ kept₀ grown₀ i₀ out kept grown i = Held new ranges held out kept grown i
+
+abbrev μ-loop : tie.MeasureT-loop
+μ-loop count new ranges held out₀ kept₀ grown₀ i₀ out kept grown i = held - i
+
+-- the array's length, which its type says
+long : (c : tie.Start Inv-loop μ-loop) → length (c .args .t1) ≡ most
+long c = search needs
+
+places-requires : tie.Need-places-requires Inv-loop μ-loop
+places-requires c κs = tt
+
+loop-holds : tie.Need-loop-holds Inv-loop μ-loop
+unfolding keep grow
+loop-holds c = record { upto = omega arith; few = omega arith; long = long (c .before); counts = refl; lays = refl; grows = refl }
+
+mul-r : tie.Need-mul-r Inv-loop μ-loop
+mul-r c = search needs
+
+array-copy-out-r : tie.Need-array-copy-out-r Inv-loop μ-loop
+array-copy-out-r c = search needs
+
+add-i : tie.Need-add-i Inv-loop μ-loop
+add-i c = search needs
+
+touches-requires : tie.Need-touches-requires Inv-loop μ-loop
+touches-requires c κs = tt
+
+hull-requires : tie.Need-hull-requires Inv-loop μ-loop
+hull-requires c κs = tt
+
+loop-less : tie.Need-loop-less Inv-loop μ-loop
+loop-less c = search needs
+
+loop-again : tie.Need-loop-again Inv-loop μ-loop
+loop-again c =
+    let at-touches = c .before .before in
+    let at-loop = at-touches .before .before .before in
+    let at-start = at-loop .before .before in
+    let inv = at-loop .loop .inv in
+    let h : at-loop .loop .i < length (at-start .args .t1) = omega (arith, long at-start) in
+    let e : touch (at-start .args .new) (getD (at-start .args .t1) (at-loop .loop .i) none) ≡ true = sym (at-touches .touches .ensures) ∙ c .before .if1 .taken in
+    let k : keep (at-start .args .new) (take (at-loop .loop .i + 1) (at-start .args .t1)) ≡ keep (at-start .args .new) (take (at-loop .loop .i) (at-start .args .t1)) = keep-touched _ _ _ none h e in
+    record {
+      upto = omega arith;
+      few = omega arith;
+      long = inv .long;
+      counts = inv .counts ∙ sym (ap length k);
+      lays = inv .lays ∙ sym (ap (λ (l : List TpRange). over l (at-start .args .t1)) k);
+      grows = c .hull .ensures ∙ ap (λ (g : TpRange). hullOf g (getD (at-start .args .t1) (at-loop .loop .i) none)) (inv .grows) ∙ sym (grow-touched _ _ _ none h _ e);
+    }
+
+mul-out : tie.Need-mul-out Inv-loop μ-loop
+mul-out c = search needs
+
+array-set-from-out : tie.Need-array-set-from-out Inv-loop μ-loop
+array-set-from-out c = search needs
+
+add-kept : tie.Need-add-kept Inv-loop μ-loop
+add-kept c = search needs
+
+loop-less-2 : tie.Need-loop-less-2 Inv-loop μ-loop
+loop-less-2 c = search needs
+
+loop-again-2 : tie.Need-loop-again-2 Inv-loop μ-loop
+loop-again-2 c =
+    let at-touches = c .before in
+    let at-loop = at-touches .before .before .before in
+    let at-start = at-loop .before .before in
+    let inv = at-loop .loop .inv in
+    let array = at-start .args .t1 in
+    let r : TpRange = getD array (at-loop .loop .i) none in
+    let old : List TpRange = keep (at-start .args .new) (take (at-loop .loop .i) array) in
+    let h : at-loop .loop .i < length array = omega (arith, long at-start) in
+    let e : touch (at-start .args .new) r ≡ false = sym (at-touches .touches .ensures) ∙ c .if1 .left in
+    let k : keep (at-start .args .new) (take (at-loop .loop .i + 1) array) ≡ old ++ (r ∷ []) = keep-apart _ _ _ none h e in
+    record {
+      upto = omega arith;
+      few = omega arith;
+      long = simp length-set (inv .long);
+      counts = ap (λ (n : ℕ). n + 1) (inv .counts) ∙ sym (ap length k ∙ length-append old (r ∷ []));
+      lays = (λ j. set (inv .lays j) (inv .counts j) r) ∙ over-snoc old array r (omega (arith, inv .counts)) ∙ sym (ap (λ (l : List TpRange). over l array) k);
+      grows = inv .grows ∙ sym (grow-apart _ _ _ none h _ e);
+    }
+
+mul-out-2 : tie.Need-mul-out-2 Inv-loop μ-loop
+mul-out-2 c = search needs
+
+array-set-from-out-2 : tie.Need-array-set-from-out-2 Inv-loop μ-loop
+array-set-from-out-2 c = search needs
+
+add-t22 : tie.Need-add-t22 Inv-loop μ-loop
+add-t22 c = search needs
+
+returns : tie.Need-returns Inv-loop μ-loop
+returns c =
+    let at-loop = c .before .before in
+    let room : at-loop .loop .kept < most = omega arith in
+    with-place _ _ _ _ _ _ _ _ (long (at-loop .before .before)) (at-loop .loop .inv) (c .before .loop-test .left) (at-loop .before .places .ensures) room
+
+returns-2 : tie.Need-returns-2 Inv-loop μ-loop
+returns-2 c =
+    let at-loop = c .before .before in
+    let none-left : most ≤ at-loop .loop .kept = omega arith in
+    without _ _ _ _ _ _ _ _ (long (at-loop .before .before)) (at-loop .loop .inv) (c .before .loop-test .left) (at-loop .before .places .ensures) none-left
+
+pub join-spec : {M : Type 1} → statement M
+join-spec =
+    tie.close
+    (tie.spec
+    Inv-loop
+    μ-loop
+    places-requires
+    loop-holds
+    mul-r
+    array-copy-out-r
+    add-i
+    touches-requires
+    hull-requires
+    loop-less
+    loop-again
+    mul-out
+    array-set-from-out
+    add-kept
+    loop-less-2
+    loop-again-2
+    mul-out-2
+    array-set-from-out-2
+    add-t22
+    returns
+    returns-2)

@@ -1,0 +1,116 @@
+// Ranges of a payload that is being joined: which touch, and the joining step over an array by value, of which the first `count` are held.
+// (tp_range.rs)
+ghost use mathlib.Core.Path.{_≡_};
+ghost use Prim.Native.Nat.{min, max};
+ghost use lib.ListN.{take};
+ghost use Rattle.tp_machine.specs.Ranges.{touch, hullOf, someTouch};
+ghost use Rattle.tp_machine.specs.Machine.{most};
+ghost use Rattle.tp_range.specs.Joining.{joinedIn};
+use tp_machine::TpRange;
+
+// How many ranges are held at most.
+pub const MAX_RANGES: usize = 32;
+
+// What joining gives: the new array and how many it holds; or, where they would be too many, all as it was.
+pub struct Joined {
+    pub full: bool,
+    pub ranges: [TpRange; MAX_RANGES],
+    pub count: usize,
+}
+
+// Whether neither ends before the other begins.
+pub fn touches(a: TpRange, b: TpRange) -> bool
+    ensures { λ r. ⌜ r ≡ touch a b ⌝ }
+{
+    a.start <= b.end && b.start <= a.end
+}
+
+// The smaller of two.
+fn least(x: u32, y: u32) -> u32
+    ensures { λ r. ⌜ r ≡ min x y ⌝ }
+{
+    if x < y { x } else { y }
+}
+
+// The greater of two.
+fn greatest(x: u32, y: u32) -> u32
+    ensures { λ r. ⌜ r ≡ max x y ⌝ }
+{
+    if x < y { y } else { x }
+}
+
+// The least range that holds both.
+pub fn hull(a: TpRange, b: TpRange) -> TpRange
+    ensures { λ r. ⌜ r ≡ hullOf a b ⌝ }
+{
+    TpRange {
+        start: least(a.start, b.start),
+        end: greatest(a.end, b.end),
+    }
+}
+
+// How many places of an array are held: a count past its end means all of them.
+fn places(count: usize) -> usize
+    ensures { λ r. ⌜ r ≡ min count most ⌝ }
+{
+    if count < MAX_RANGES {
+        count
+    } else {
+        MAX_RANGES
+    }
+}
+
+// The joining step: the ranges that `new` does not touch, in their order, and then `new` grown by those that it touches.
+// The places behind them stay as they were.
+pub fn join(ranges: [TpRange; MAX_RANGES], count: usize, new: TpRange) -> Joined
+    ensures { λ r. ⌜ r ≡ joinedIn ranges count new ⌝ }
+{
+    let held = places(count);
+    let mut out = ranges;
+    let mut kept: usize = 0;
+    let mut grown = new;
+    let mut i: usize = 0;
+    while i < held {
+        let r = ranges[i];
+        i += 1;
+        if touches(new, r) {
+            grown = hull(grown, r);
+        } else {
+            out[kept] = r;
+            kept += 1;
+        }
+    }
+    if kept < MAX_RANGES {
+        out[kept] = grown;
+        return Joined {
+            full: false,
+            ranges: out,
+            count: kept + 1,
+        };
+    }
+    Joined {
+        full: true,
+        ranges,
+        count,
+    }
+}
+
+// Whether two of the first `count` touch: each is tried with those behind it.
+pub fn some_touch(ranges: [TpRange; MAX_RANGES], count: usize) -> bool
+    ensures { λ b. ⌜ b ≡ someTouch (take count ranges) ⌝ }
+{
+    let held = places(count);
+    let mut i: usize = 0;
+    while i < held {
+        let r = ranges[i];
+        i += 1;
+        let mut j = i;
+        while j < held {
+            if touches(r, ranges[j]) {
+                return true;
+            }
+            j += 1;
+        }
+    }
+    false
+}

@@ -1,0 +1,92 @@
+-- `tp_segment::is_segment` meets its contract: by the tests in their order. Assumes nothing.
+use Prim.Native.Nat.{ℕ, _≤_}
+use mathlib.Core.List.{List}
+use mathlib.Core.Path.{_≡_, sym, _∙_}
+use lib.ListN.{length}
+use Rattle.numbers.specs.Bytes.{at16, at32}
+use Rattle.tp_segment.proofs.Laws.{is-short, is-length, is-version, is-type}
+use borrow.Author.Needs.{needs}
+use Rattle.tp_segment.proofs.is_segment.Statement.{statement}
+use Rattle.tp_segment.proofs.is_segment.Tie as tie
+
+-- what the tests that passed tell
+module _ (c : tie.After-word) where
+  abbrev bytes : List ℕ
+  bytes = c .before .before .before .before .before .before .before .args .s .now
+
+  long : 20 ≤ length bytes
+  long = c .before .before .before .before .before .if1 .left
+
+  field : c .word .result ≡ at32 bytes 4
+  unfolding at32 at16
+  field = c .word .ensures
+
+returns : tie.Need-returns
+returns c = sym (is-short _ (c .if1 .taken))
+
+shared-slice-read-word : tie.Need-shared-slice-read-word
+shared-slice-read-word c = search needs
+
+shared-slice-read-word-2 : tie.Need-shared-slice-read-word-2
+shared-slice-read-word-2 c = search needs
+
+shared-slice-read-word-3 : tie.Need-shared-slice-read-word-3
+shared-slice-read-word-3 c = search needs
+
+shared-slice-read-word-4 : tie.Need-shared-slice-read-word-4
+shared-slice-read-word-4 c = search needs
+
+word-requires : tie.Need-word-requires
+word-requires c κs = search needs
+
+cast-field : tie.Need-cast-field
+cast-field c = search needs
+
+sub-if2 : tie.Need-sub-if2
+sub-if2 c = search needs
+
+returns-2 : tie.Need-returns-2
+returns-2 c =
+    let at-word = c .before in
+    sym (is-length _ (long at-word) (λ e. c .if2 .taken (field at-word ∙ e)))
+
+shared-slice-read-if3 : tie.Need-shared-slice-read-if3
+shared-slice-read-if3 c = search needs
+
+returns-3 : tie.Need-returns-3
+returns-3 c =
+    let at-second = c .before .before in
+    let at-word = at-second .before in
+    sym (is-version _ (long at-word) (sym (field at-word) ∙ at-second .if2 .left) (c .if3 .taken))
+
+shared-slice-read-tp-type : tie.Need-shared-slice-read-tp-type
+shared-slice-read-tp-type c = search needs
+
+tp-type-requires : tie.Need-tp-type-requires
+tp-type-requires c κs = search needs
+
+returns-4 : tie.Need-returns-4
+returns-4 c =
+    let at-third = c .before .before in
+    let at-second = at-third .before .before in
+    let at-word = at-second .before in
+    c .tp-type .ensures ∙ sym (is-type _ (long at-word) (sym (field at-word) ∙ at-second .if2 .left) (at-third .if3 .left))
+
+pub is-segment-spec : {M : Type 1} → statement M
+is-segment-spec =
+    tie.close
+    (tie.spec
+    returns
+    shared-slice-read-word
+    shared-slice-read-word-2
+    shared-slice-read-word-3
+    shared-slice-read-word-4
+    word-requires
+    cast-field
+    sub-if2
+    returns-2
+    shared-slice-read-if3
+    returns-3
+    shared-slice-read-tp-type
+    tp-type-requires
+    returns-4)

@@ -1,0 +1,65 @@
+-- `tp_segment::read` meets its contract: 30, or the fields of the TP word. Assumes nothing.
+use Prim.Native.Nat.{_≤_}
+use mathlib.Core.Path.{_≡_, sym, _∙_}
+use lib.ListN.{length}
+use native.Mathlib.Omega.{arith}
+use Rattle.numbers.specs.Bytes.{at16, at32}
+use Rattle.tp_segment.proofs.Laws.{is-long, reads-not, reads-good}
+use borrow.Author.Needs.{needs}
+use Rattle.tp_segment.proofs.read.Statement.{statement}
+use Rattle.tp_segment.proofs.read.Tie as tie
+
+-- a segment has its 20 bytes
+long : (c : tie.Then1) → 20 ≤ length (c .before .before .before .args .s .now)
+long c = is-long _ (sym (c .before .is-segment .ensures) ∙ c .if1 .taken)
+
+word-is : (c : tie.After-word) → c .word .result ≡ at32 (c .before .before .before .before .before .before .before .before .args .s .now) 16
+unfolding at32 at16
+word-is c = c .word .ensures
+
+is-segment-requires : tie.Need-is-segment-requires
+is-segment-requires c κs = search needs
+
+shared-slice-read-word : tie.Need-shared-slice-read-word
+shared-slice-read-word c = omega (arith, long (c .before))
+
+shared-slice-read-word-2 : tie.Need-shared-slice-read-word-2
+shared-slice-read-word-2 c = omega (arith, long (c .before .before))
+
+shared-slice-read-word-3 : tie.Need-shared-slice-read-word-3
+shared-slice-read-word-3 c = omega (arith, long (c .before .before .before))
+
+shared-slice-read-word-4 : tie.Need-shared-slice-read-word-4
+shared-slice-read-word-4 c = omega (arith, long (c .before .before .before .before))
+
+word-requires : tie.Need-word-requires
+word-requires c κs = search needs
+
+sub-t13 : tie.Need-sub-t13
+sub-t13 c = search needs
+
+sub-t17 : tie.Need-sub-t17
+sub-t17 c = omega (arith, long (c .before .before .before .before .before))
+
+returns : tie.Need-returns
+returns c =
+    let at-first = c .before .before .before .before .before in
+    reads-good _ _ (sym (at-first .before .is-segment .ensures) ∙ at-first .if1 .taken) (word-is c)
+
+returns-2 : tie.Need-returns-2
+returns-2 c = reads-not _ (sym (c .before .is-segment .ensures) ∙ c .if1 .left)
+
+pub read-spec : {M : Type 1} → statement M
+read-spec =
+    tie.close
+    (tie.spec
+    is-segment-requires
+    shared-slice-read-word
+    shared-slice-read-word-2
+    shared-slice-read-word-3
+    shared-slice-read-word-4
+    word-requires
+    sub-t13
+    sub-t17
+    returns
+    returns-2)

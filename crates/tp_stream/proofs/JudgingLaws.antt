@@ -1,0 +1,93 @@
+-- The tests of a segment, one by one and in their order. Assumes nothing.
+use Prim.Native.Nat.{ℕ, _+_, _-_, _%_, _≤_, _<_}
+use mathlib.Core.Path.{_≡_, refl, sym, subst}
+use mathlib.Core.Bool.{Bool, true, false, _&&_, not}
+use mathlib.Core.List.{List}
+use native.Mathlib.Omega.{arith}
+use borrow.Author.Tests.{lt-ltb, le-ltb, ltb-true, ltb-false}
+use lib.Dec.{ltb, eqb}
+use Rattle.numbers.specs.Refusals.{not-a-segment, segment-too-big, unaligned, conflicting-end, buffer-too-short, malformed-state}
+use Rattle.numbers.specs.Answers.{refused, refuse_when_else_}
+use Rattle.tp_machine.specs.declared.TpEnd.{TpEnd}
+use Rattle.tp_machine.specs.declared.TpEnd.the-variants.{Known}
+use Rattle.tp_machine.specs.Segments.{isSegment, endOf}
+use Rattle.tp_machine.specs.Machine.{State, badState, conflicts, previous, judged}
+use Rattle.tp_segment.specs.declared.TpHeader.{TpHeader}
+use Rattle.tp_segment.specs.Reading.{headerOf}
+use Rattle.tp_segment.proofs.Laws.{is-long}
+use Rattle.tp_stream.specs.Promises.{Passed}
+use Rattle.tp_stream.proofs.MalformedLaws.{sound}
+
+-- 31: an offset past the limit, or a length past what is left
+pub past-limit : (limit offset size : ℕ) → limit < offset → true ≡ ltb limit (offset + size)
+past-limit limit offset size h = sym (lt-ltb limit (offset + size) (omega arith))
+
+pub left-over : (limit offset size : ℕ) → offset ≤ limit → ltb (limit - offset) size ≡ ltb limit (offset + size)
+left-over limit offset size h = go (ltb (limit - offset) size) refl
+  where
+    go : (b : Bool) → ltb (limit - offset) size ≡ b → b ≡ ltb limit (offset + size)
+    go true e = sym (lt-ltb limit (offset + size) (omega (arith, ltb-true (limit - offset) size e)))
+    go false e = sym (le-ltb limit (offset + size) (omega (arith, ltb-false (limit - offset) size e)))
+
+-- 33: an end that is known, by the tests in their order
+module _ (end : TpEnd) (e : ℕ) (more : Bool) (x : ℕ) (q : end ≡ Known e) where
+  pub conflict-past : e < x → conflicts end more x ≡ true
+  conflict-past h = rw (q, lt-ltb e x h)
+
+  pub conflict-more : x ≤ e → more ≡ true → conflicts end more x ≡ false
+  conflict-more h m = rw (q, le-ltb e x h, m)
+
+  pub conflict-last : x ≤ e → more ≡ false → conflicts end more x ≡ not (eqb x e)
+  conflict-last h m = rw (q, le-ltb e x h, m)
+
+-- ---- the tests in their order
+module _ (p : State) (seg : List ℕ) (room : ℕ) where
+  pub judged-malformed : badState p ≡ true → judged p seg room ≡ refused malformed-state
+  unfolding judged refuse_when_else_
+  judged-malformed m = rw m
+
+  pub judged-not : badState p ≡ false → isSegment seg ≡ false → judged p seg room ≡ refused not-a-segment
+  unfolding judged refuse_when_else_
+  judged-not m g = rw (m, g)
+
+-- the tests by what the header says: 31, 32, 33, 34
+abbrev pub past : State → TpHeader → Bool
+past p h = ltb (p .limit) (h .offset + h .size)
+
+abbrev pub uneven : TpHeader → Bool
+uneven h = h .more && not (eqb (h .size % 16) 0)
+
+abbrev pub clash : State → TpHeader → Bool
+clash p h = conflicts (p .end) (h .more) (h .offset + h .size)
+
+abbrev pub short-of : ℕ → TpHeader → Bool
+short-of room h = ltb room (16 + (h .offset + h .size))
+
+-- what each of them decides
+pub record Decides (p : State) (seg : List ℕ) (room : ℕ) (h : TpHeader) : Type 0 where
+  pub big : past p h ≡ true → judged p seg room ≡ refused (segment-too-big (h .offset) (h .size) (p .limit))
+  pub not-aligned : past p h ≡ false → uneven h ≡ true → judged p seg room ≡ refused (unaligned (h .offset) (h .size))
+  pub conflict : past p h ≡ false → uneven h ≡ false → clash p h ≡ true → judged p seg room ≡ refused (conflicting-end (previous (p .end)) (h .offset + h .size))
+  pub short : past p h ≡ false → uneven h ≡ false → clash p h ≡ false → short-of room h ≡ true → judged p seg room ≡ refused (buffer-too-short (16 + (h .offset + h .size)))
+  pub passes : past p h ≡ false → uneven h ≡ false → clash p h ≡ false → short-of room h ≡ false → Passed p seg room h
+
+module _ (p : State) (seg : List ℕ) (room : ℕ) (m : badState p ≡ false) (g : isSegment seg ≡ true) where
+  of-header : Decides p seg room (headerOf seg)
+  unfolding judged refuse_when_else_
+  of-header = record {
+    big = λ a. rw (m, g, a);
+    not-aligned = λ a b. rw (m, g, a, b);
+    conflict = λ a b c. rw (m, g, a, b, c);
+    short = λ a b c d. rw (m, g, a, b, c, d);
+    passes = λ a b c d. record {
+      good = m;
+      header = refl;
+      long = is-long seg g;
+      low = omega (arith, ltb-false (p .limit) (endOf seg) a, sound p m .low);
+      fits = ltb-false room (16 + endOf seg) d;
+      rest = rw (m, g, a, b, c, d);
+    };
+  }
+
+  pub decides : (h : TpHeader) → h ≡ headerOf seg → Decides p seg room h
+  decides h q = subst (Decides p seg room) (sym q) of-header

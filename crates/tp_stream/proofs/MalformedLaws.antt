@@ -1,0 +1,80 @@
+-- 38, rule by rule, of a range and of a stream's record; and what a state that is not malformed tells. Assumes nothing.
+use Prim.Native.Nat.{ℕ, _≤_, _<_}
+use mathlib.Core.Path.{_≡_, refl, sym, ap}
+use mathlib.Core.Bool.{Bool, true, false, _||_}
+use mathlib.Core.List.{List, _∷_}
+use native.Mathlib.Omega.{arith}
+use borrow.Author.Tests.{lt-ltb, le-ltb, ltb-false}
+use lib.Dec.{ltb}
+use lib.ListN.{length, take}
+use Rattle.tp_machine.specs.declared.TpRange.{TpRange}
+use Rattle.tp_machine.specs.Ranges.{any, someTouch}
+use Rattle.tp_machine.specs.Machine.{most, highest, State, badRange, endPast, badState}
+use Rattle.tp_stream.specs.declared.TpStream.{TpStream}
+use Rattle.tp_stream.specs.Stream.{held, view}
+use Rattle.tp_stream.proofs.StreamLaws.{held-length, held-take}
+
+-- ---- one range's faults, by the tests in their order
+module _ (p : State) (r : TpRange) where
+  pub bad-early : r .end < r .start → true ≡ badRange p r
+  unfolding badRange
+  bad-early h = rw (lt-ltb (r .end) (r .start) h)
+
+  pub bad-late : (limit : ℕ) → p .limit ≡ limit → r .start ≤ r .end → ltb limit (r .end) ≡ badRange p r
+  unfolding badRange
+  bad-late limit e h = rw (le-ltb (r .end) (r .start) h) (ap (λ (n : ℕ). ltb n (r .end)) (sym e))
+
+-- ---- a stream's faults, by the tests in their order
+module _ (s : TpStream) where
+  pub too-many : most < s .count → true ≡ badState (view s)
+  unfolding badState
+  too-many h = rw (held-length, lt-ltb most (s .count) h)
+
+  module _ (few : s .count ≤ most) where
+    pub too-high : highest < s .limit → true ≡ badState (view s)
+    unfolding badState
+    too-high h = rw (held-length, le-ltb most (s .count) few, lt-ltb highest (s .limit) h)
+
+    module _ (low : s .limit ≤ highest) where
+      pub too-late : endPast (s .end) (s .limit) ≡ true → true ≡ badState (view s)
+      unfolding badState
+      too-late e = rw (held-length, le-ltb most (s .count) few, le-ltb highest (s .limit) low, e)
+
+      module _ (ends : endPast (s .end) (s .limit) ≡ false) (long : length (s .ranges) ≡ most) where
+        the-ranges : held (s .count) (s .ranges) ≡ take (s .count) (s .ranges)
+        the-ranges = held-take (s .count) (s .ranges) (omega arith)
+
+        pub one-bad : any (badRange (view s)) (take (s .count) (s .ranges)) ≡ true → true ≡ badState (view s)
+        unfolding badState
+        one-bad e = rw (held-length, le-ltb most (s .count) few, le-ltb highest (s .limit) low, ends, ap (any (badRange (view s))) the-ranges, e)
+
+        pub two-touch : any (badRange (view s)) (take (s .count) (s .ranges)) ≡ false → someTouch (take (s .count) (s .ranges)) ≡ badState (view s)
+        unfolding badState
+        two-touch e = rw (held-length, le-ltb most (s .count) few, le-ltb highest (s .limit) low, ends, ap (any (badRange (view s))) the-ranges, e) (ap someTouch (sym the-ranges))
+
+-- ---- what a state that is not malformed tells
+neither : (a b : Bool) → (a || b) ≡ false → (a ≡ false) × (b ≡ false)
+neither true b e = (e, cc)
+neither false b e = (refl, e)
+
+pub record Sound (p : State) : Type 0 where
+  pub few : length (p .ranges) ≤ most
+  pub low : p .limit ≤ highest
+  pub each : any (badRange p) (p .ranges) ≡ false
+
+pub sound : (p : State) → badState p ≡ false → Sound p
+unfolding badState
+sound p e =
+    let a = neither (ltb most (length (p .ranges))) _ e in
+    let b = neither (ltb highest (p .limit)) _ (a .1) in
+    let c = neither (endPast (p .end) (p .limit)) _ (b .1) in
+    let d = neither (any (badRange p) (p .ranges)) _ (c .1) in
+    record { few = ltb-false most (length (p .ranges)) (a .0); low = ltb-false highest (p .limit) (b .0); each = d .0 }
+
+-- the first range ends within the limit
+pub first-within : (p : State) (r : TpRange) (rs : List TpRange) → any (badRange p) (r ∷ rs) ≡ false → r .end ≤ p .limit
+unfolding any badRange
+first-within p r rs e =
+    let a = neither (badRange p r) (any (badRange p) rs) e in
+    let b = neither (ltb (r .end) (r .start)) (ltb (p .limit) (r .end)) (a .0) in
+    ltb-false (p .limit) (r .end) (b .1)

@@ -1,0 +1,74 @@
+-- `tp_stream::malformed::any_bad` meets its contract: those passed are good, so the answer for all is the answer for the rest. Assumes nothing.
+use Prim.Native.Nat.{_-_}
+use mathlib.Core.Path.{_≡_, refl, sym, _∙_}
+use native.Mathlib.Omega.{arith}
+use lib.ListN.{length, take, drop}
+use Rattle.tp_machine.specs.Ranges.{any}
+use Rattle.tp_machine.specs.Machine.{most, State, badRange}
+use Rattle.tp_range.proofs.Laws.{any-hit, any-miss, any-end}
+use Rattle.tp_stream.specs.Stream.{none}
+use borrow.Author.Needs.{needs}
+use Rattle.tp_stream.proofs.malformed.any_bad.Statement.{statement}
+use Rattle.tp_stream.proofs.malformed.any_bad.Tie as tie
+
+abbrev Inv-loop : tie.InvT-loop
+Inv-loop limit count ranges i₀ i = (p : State) → p .limit ≡ limit → any (badRange p) (drop i (take count ranges)) ≡ any (badRange p) (take count ranges)
+
+abbrev μ-loop : tie.MeasureT-loop
+μ-loop limit count ranges i₀ i = count - i
+
+long : (c : tie.Start Inv-loop μ-loop) → length (c .args .t2) ≡ most
+long c = search needs
+
+loop-holds : tie.Need-loop-holds Inv-loop μ-loop
+loop-holds c = λ p e. refl
+
+mul-r : tie.Need-mul-r Inv-loop μ-loop
+mul-r c = search needs
+
+array-copy-out-r : tie.Need-array-copy-out-r Inv-loop μ-loop
+array-copy-out-r c = search needs
+
+add-i : tie.Need-add-i Inv-loop μ-loop
+add-i c = search needs
+
+bad-range-requires : tie.Need-bad-range-requires Inv-loop μ-loop
+bad-range-requires c κs = tt
+
+returns : tie.Need-returns Inv-loop μ-loop
+returns c =
+    λ p e.
+    let at-call = c .before in
+    let at-test = at-call .before .before in
+    sym (any-hit _ _ _ none (at-test .loop-test .taken) (omega (arith, long (at-test .before .before))) (badRange p) (sym (at-call .bad-range .ensures p e) ∙ c .if1 .taken))
+    ∙ at-test .before .loop .inv p e
+
+loop-less : tie.Need-loop-less Inv-loop μ-loop
+loop-less c = search needs
+
+loop-again : tie.Need-loop-again Inv-loop μ-loop
+loop-again c =
+    λ p e.
+    let at-call = c .before in
+    let at-test = at-call .before .before in
+    any-miss _ _ _ none (at-test .loop-test .taken) (omega (arith, long (at-test .before .before))) (badRange p) (sym (at-call .bad-range .ensures p e) ∙ c .if1 .left)
+    ∙ at-test .before .loop .inv p e
+
+returns-2 : tie.Need-returns-2 Inv-loop μ-loop
+returns-2 c = λ p e. sym (any-end (badRange p) _ _ _ (c .loop-test .left)) ∙ c .before .loop .inv p e
+
+pub any-bad-spec : {M : Type 1} → statement M
+any-bad-spec =
+    tie.close
+    (tie.spec
+    Inv-loop
+    μ-loop
+    loop-holds
+    mul-r
+    array-copy-out-r
+    add-i
+    bad-range-requires
+    returns
+    loop-less
+    loop-again
+    returns-2)

@@ -1,0 +1,67 @@
+-- `tp_stream::malformed::malformed` meets its contract: each test that fails leaves the rest of the rule. Assumes nothing.
+use mathlib.Core.Path.{_≡_, refl, sym, _∙_}
+use lib.ListN.{length}
+use Rattle.tp_machine.specs.Machine.{most}
+use Rattle.tp_stream.proofs.StreamLaws.{length-of-map}
+use Rattle.tp_stream.proofs.MalformedLaws.{too-many, too-high, too-late, one-bad, two-touch}
+use borrow.Author.Needs.{needs}
+use Rattle.tp_stream.proofs.malformed.malformed.Statement.{statement}
+use Rattle.tp_stream.proofs.malformed.malformed.Tie as tie
+
+-- the length of the stream's array
+long : (c : tie.Start) → length (c .args .s .ranges) ≡ most
+long c = search (needs, length-of-map)
+
+returns : tie.Need-returns
+returns c = too-many (c .before .before .args .s) (c .if1 .taken)
+
+returns-2 : tie.Need-returns-2
+returns-2 c =
+    let at-first = c .before .before in
+    too-high (at-first .before .before .args .s) (at-first .if1 .left) (c .if2 .taken)
+
+end-past-requires : tie.Need-end-past-requires
+end-past-requires c κs = search needs
+
+returns-3 : tie.Need-returns-3
+returns-3 c =
+    let at-second = c .before .before in
+    let at-first = at-second .before .before in
+    too-late (at-first .before .before .args .s) (at-first .if1 .left) (at-second .if2 .left) (sym (c .before .end-past .ensures) ∙ c .if3 .taken)
+
+any-bad-requires : tie.Need-any-bad-requires
+any-bad-requires c κs = search needs
+
+returns-4 : tie.Need-returns-4
+returns-4 c =
+    let at-third = c .before .before .before in
+    let at-second = at-third .before .before in
+    let at-first = at-second .before .before in
+    one-bad (at-first .before .before .args .s) (at-first .if1 .left) (at-second .if2 .left) (sym (at-third .before .end-past .ensures) ∙ at-third .if3 .left)
+    (long (at-first .before .before)) (sym (c .before .any-bad .ensures _ refl) ∙ c .if4 .taken)
+
+some-touch-requires : tie.Need-some-touch-requires
+some-touch-requires c κs = search needs
+
+returns-5 : tie.Need-returns-5
+returns-5 c =
+    let at-fourth = c .before in
+    let at-third = at-fourth .before .before .before in
+    let at-second = at-third .before .before in
+    let at-first = at-second .before .before in
+    c .some-touch .ensures
+    ∙ two-touch (at-first .before .before .args .s) (at-first .if1 .left) (at-second .if2 .left) (sym (at-third .before .end-past .ensures) ∙ at-third .if3 .left)
+    (long (at-first .before .before)) (sym (at-fourth .before .any-bad .ensures _ refl) ∙ at-fourth .if4 .left)
+
+pub malformed-spec : {M : Type 1} → statement M
+malformed-spec =
+    tie.close
+    (tie.spec
+    returns
+    returns-2
+    end-past-requires
+    returns-3
+    any-bad-requires
+    returns-4
+    some-touch-requires
+    returns-5)

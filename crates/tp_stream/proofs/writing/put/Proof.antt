@@ -1,0 +1,74 @@
+-- `tp_stream::writing::put` meets its contract: after i turns the first i bytes are in their places. Assumes nothing.
+use Prim.Native.Nat.{ℕ, _+_, _-_, _≤_}
+use mathlib.Core.Path.{_≡_, refl, sym, ap, _∙_}
+use mathlib.Core.List.{List}
+use native.Mathlib.Nat.{le-antisymm}
+use native.Mathlib.Numerals.{add-one}
+use native.Mathlib.Omega.{arith}
+use lib.ListN.{length, set, getD, length-set}
+use lib.Seq.{paste, paste-zero, paste-suc}
+use Rattle.tp_stream.proofs.WritingLaws.{paste-all}
+use Rattle.tp_stream.proofs.writing.put.Statement.{statement}
+use Rattle.tp_stream.proofs.writing.put.Tie as tie
+
+abbrev Inv-loop : tie.InvT-loop
+Inv-loop buf₀ at src i₀ buf i = (i ≤ length src) × (buf ≡ paste buf₀ at src i) × (length buf ≡ length buf₀)
+
+abbrev μ-loop : tie.MeasureT-loop
+μ-loop buf₀ at src i₀ buf i = length src - i
+
+loop-holds : tie.Need-loop-holds Inv-loop μ-loop
+loop-holds c = (omega arith, paste-zero (c .args .buf .now) (c .args .at) (c .args .src .now), refl)
+
+shared-slice-read-buf : tie.Need-shared-slice-read-buf Inv-loop μ-loop
+shared-slice-read-buf c = omega arith
+
+add-buf : tie.Need-add-buf Inv-loop μ-loop
+add-buf c = omega arith
+
+slice-write-buf : tie.Need-slice-write-buf Inv-loop μ-loop
+slice-write-buf c = omega arith
+
+add-i : tie.Need-add-i Inv-loop μ-loop
+add-i c = omega arith
+
+loop-less : tie.Need-loop-less Inv-loop μ-loop
+loop-less c = omega arith
+
+loop-again : tie.Need-loop-again Inv-loop μ-loop
+loop-again c =
+    let at-loop = c .before .before in
+    let a = at-loop .before .args in (
+      omega arith,
+      ap (λ (l : List ℕ). set l (a .at + at-loop .loop .i) (getD (a .src .now) (at-loop .loop .i) 0)) (at-loop .loop .inv .1)
+          ∙ paste-suc (a .buf .now) (a .at) (a .src .now) (at-loop .loop .i) 0 (omega arith) (omega arith)
+          ∙ ap (paste (a .buf .now) (a .at) (a .src .now)) (sym (add-one (at-loop .loop .i))),
+      simp length-set (at-loop .loop .inv .2),
+    )
+
+same-length : tie.Need-same-length Inv-loop μ-loop
+same-length c = c .before .loop .inv .2
+
+returns : tie.Need-returns Inv-loop μ-loop
+returns c =
+    let at-loop = c .before in
+    let a = at-loop .before .args in
+    at-loop .loop .inv .1
+    ∙ ap (paste (a .buf .now) (a .at) (a .src .now)) (le-antisymm (at-loop .loop .inv .0) (c .loop-test .left))
+    ∙ paste-all (a .buf .now) (a .at) (a .src .now)
+
+pub put-spec : {M : Type 1} → statement M
+put-spec =
+    tie.close
+    (tie.spec
+    Inv-loop
+    μ-loop
+    loop-holds
+    shared-slice-read-buf
+    add-buf
+    slice-write-buf
+    add-i
+    loop-less
+    loop-again
+    same-length
+    returns)

@@ -1,0 +1,19 @@
+-- `tp_stream::writing::without_tp` meets its contract. Assumes nothing.
+use mathlib.Core.Path.{refl}
+use Rattle.tp_machine.specs.Segments.{withoutTp}
+use borrow.Author.Needs.{needs}
+use Rattle.tp_stream.proofs.writing.without_tp.Statement.{statement}
+use Rattle.tp_stream.proofs.writing.without_tp.Tie as tie
+
+mul-result : tie.Need-mul-result
+mul-result c = search needs
+
+sub-result : tie.Need-sub-result
+sub-result c = search needs
+
+returns : tie.Need-returns
+unfolding withoutTp
+returns c = refl
+
+pub without-tp-spec : {M : Type 1} → statement M
+without-tp-spec = tie.close (tie.spec mul-result sub-result returns)

@@ -1,0 +1,45 @@
+// Whether a stream's report can be taken: answers 38, 37, 34.
+ghost use mathlib.Core.Path.{_≡_};
+ghost use mathlib.Core.Bool.{_&&_};
+ghost use Rattle.tp_machine.specs.Taking.{isKnown, whole as wholeOf, ready as readyOf};
+ghost use Rattle.tp_stream.specs.Stream.{view};
+ghost use Rattle.tp_stream.specs.Saying.{takenOf};
+use crate::TpRefusal;
+use crate::TpStream;
+use crate::TpTaken;
+use tp_machine::TpEnd;
+
+// Whether an end is known, and there is exactly one range, beginning at 0.
+pub(crate) fn whole(s: TpStream) -> bool
+    ensures { λ r. ⌜ r ≡ (isKnown (s .end) && wholeOf (view s .ranges)) ⌝ }
+{
+    let end = s.end;
+    let TpEnd::Known(_) = end else {
+        return false;
+    };
+    if s.count != 1 {
+        return false;
+    }
+    let ranges = s.ranges;
+    let first = ranges[0];
+    first.start == 0
+}
+
+// Answers 38, 37 and 34 for a buffer of `room` bytes, or where the one range ends.
+pub(crate) fn ready(s: TpStream, room: usize) -> TpTaken
+    ensures { λ r. ⌜ takenOf r ≡ readyOf (view s) room ⌝ }
+{
+    if crate::malformed::malformed(s) {
+        return TpTaken::Refused(TpRefusal::MalformedState);
+    }
+    if whole(s) {
+        let ranges = s.ranges;
+        let first = ranges[0];
+        if crate::judging::too_short(room, first.end) {
+            let needed = 16 + first.end as usize;
+            return TpTaken::Refused(TpRefusal::BufferTooShort { needed });
+        }
+        return TpTaken::Report(first.end);
+    }
+    TpTaken::Refused(TpRefusal::NotComplete)
+}
