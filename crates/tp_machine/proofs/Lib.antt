@@ -1,1 +1,4 @@
 pub mod Cases
+pub mod Lists
+pub mod Joining
+pub mod Tests

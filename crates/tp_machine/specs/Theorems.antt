@@ -1,0 +1,73 @@
+-- What is shown of the machine: each a statement, whose proof of that name is in proofs/. Assumes nothing: these are definitions.
+use Prim.Native.Nat.{ℕ}
+use mathlib.Core.Path.{_≡_}
+use mathlib.Core.Bool.{true, false, _||_}
+use mathlib.Core.List.{List}
+use mathlib.Core.Logic.{_↔_}
+use Rattle.numbers.specs.Answers.{accepted, pass}
+use Rattle.tp_machine.specs.declared.TpRange.{TpRange}
+use Rattle.tp_machine.specs.Lists.{Rearranged}
+use Rattle.tp_machine.specs.Segments.{isSegment}
+use Rattle.tp_machine.specs.Ranges.{any, joined}
+use Rattle.tp_machine.specs.Machine.{State, Out, badState, judged, step, begin, opened, fed, clear}
+use Rattle.tp_machine.specs.Taking.{complete, taking}
+use Rattle.tp_machine.specs.Meaning.{Segment, Good, Accepted, Complete}
+use Rattle.tp_machine.specs.Runs.{Reached, admitted, holds, covered, spans, Ended, Filled, Reported, Same, Alike}
+
+-- ---- the tests mean what document 01 says, both ways
+abbrev pub SegmentMeans : Type 0
+SegmentMeans = (s : List ℕ) → (isSegment s ≡ true) ↔ Segment s
+
+abbrev pub GoodMeans : Type 0
+GoodMeans = (p : State) → (badState p ≡ false) ↔ Good p
+
+abbrev pub AcceptedMeans : Type 0
+AcceptedMeans = (p : State) (seg : List ℕ) (room : ℕ) → (judged p seg room ≡ pass) ↔ Accepted p seg room
+
+abbrev pub CompleteMeans : Type 0
+CompleteMeans = (p : State) → (complete p ≡ true) ↔ Complete p
+
+-- ---- joining: the places covered are those of the new range and of the old ones; the set of ranges depends on the set before
+abbrev pub JoiningCovers : Type 0
+JoiningCovers = (n : TpRange) (rs : List TpRange) (x : ℕ) → covered (joined n rs) x ≡ (holds x n || covered rs x)
+
+abbrev pub JoiningOrderUnseen : Type 0
+JoiningOrderUnseen = (n : TpRange) (rs qs : List TpRange) → Rearranged rs qs → Rearranged (joined n rs) (joined n qs)
+
+-- ---- runs: no malformed state is come to, so that ranges stay apart and within the limit
+abbrev pub NeverMalformed : Type 0
+NeverMalformed = (p : State) → Reached p → Good p
+
+-- what segments, accepted or refused, leave of a fresh stream over a buffer
+pub record Run (limit : ℕ) (buf : List ℕ) (ss : List (List ℕ)) : Type 0 where
+  pub good : Good (fed (opened limit buf) ss .state)
+  pub limit-stays : fed (opened limit buf) ss .state .limit ≡ begin limit .limit
+  pub covers : (x : ℕ) → covered (fed (opened limit buf) ss .state .ranges) x ≡ any (spans x) (admitted (opened limit buf) ss)
+  pub ended : Ended (admitted (opened limit buf) ss) (fed (opened limit buf) ss .state .end)
+  pub filled : Filled buf (admitted (opened limit buf) ss) (fed (opened limit buf) ss .buffer)
+
+abbrev pub EveryRun : Type 0
+EveryRun = (limit : ℕ) (buf : List ℕ) (ss : List (List ℕ)) → Run limit buf ss
+
+-- a complete stream's report is given, whatever came
+pub record Given (o : Out) (segs : List (List ℕ)) : Type 0 where
+  pub size : ℕ
+  pub answer : taking (o .state) (o .buffer) .answer ≡ accepted size
+  pub reported : Reported segs size (taking (o .state) (o .buffer) .part)
+
+abbrev pub EveryReport : Type 0
+EveryReport = (limit : ℕ) (buf : List ℕ) (ss : List (List ℕ)) → complete (fed (opened limit buf) ss .state) ≡ true → Given (fed (opened limit buf) ss) (admitted (opened limit buf) ss)
+
+-- ---- the order of the ranges is not seen by any call, in any state
+pub record Unseen (p q : State) : Type 0 where
+  pub malformed : badState p ≡ badState q
+  pub step-alike : (seg buf : List ℕ) → Alike (step p seg buf) (step q seg buf)
+  pub complete-alike : complete p ≡ complete q
+  pub taking-alike : (buf : List ℕ) → taking p buf ≡ taking q buf
+  pub clear-alike : clear p ≡ clear q
+
+abbrev pub OrderUnseen : Type 0
+OrderUnseen = (p q : State) → Same p q → Unseen p q
+
+abbrev pub RunsAlike : Type 0
+RunsAlike = (x y : Out) → Alike x y → (ss : List (List ℕ)) → Alike (fed x ss) (fed y ss)
