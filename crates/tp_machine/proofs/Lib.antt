@@ -2,3 +2,5 @@ pub mod Cases
 pub mod Lists
 pub mod Joining
 pub mod Tests
+pub mod Bytes
+pub mod Runs

@@ -1,0 +1,200 @@
+-- What every run of the machine keeps: it is what its accepted segments make of it, one after the other. Assumes nothing.
+use Prim.Native.Nat.{ℕ, _+_, _≤_, _<_}
+use mathlib.Core.Path.{_≡_, refl, sym, ap, subst, _∙_}
+use mathlib.Core.Bool.{Bool, true, false, _||_, not, cond, or-assoc, or-false}
+use mathlib.Core.List.{List, [], _∷_}
+use native.Mathlib.Omega.{arith}
+use borrow.Author.Tests.{ltb-false}
+use lib.Dec.{ltb}
+use lib.ListN.{length, getD}
+use Rattle.numbers.specs.Refusals.{Refusal}
+use Rattle.numbers.specs.Answers.{accepted, refused, Verdict, pass, All}
+use Rattle.tp_machine.specs.declared.TpRange.{TpRange}
+use Rattle.tp_machine.specs.declared.TpEnd.{TpEnd}
+use Rattle.tp_machine.specs.declared.TpEnd.the-variants.{Unknown, Known}
+use Rattle.tp_machine.specs.Segments.{more, endOf, header, written}
+use Rattle.tp_machine.specs.Ranges.{any, hullOf}
+use Rattle.tp_machine.specs.Machine.{highest, State, fresh, taken, judged, Out, after, step, begin, opened, fed, clear}
+use Rattle.tp_machine.specs.Meaning.{rangeOf, Good, Accepted}
+use Rattle.tp_machine.specs.Runs.{begins, comes, clears, ifAccepted, admitted, covered, spans, brought, heads, final, Ended, Filled}
+use Rattle.tp_machine.specs.Theorems.{NeverMalformed, EveryRun}
+use Rattle.tp_machine.proofs.Lists.{or-swap, newest, newest-none, newest-latest}
+use Rattle.tp_machine.proofs.Joining.{all-joined, joining-covers, atZero, joined-at-zero}
+use Rattle.tp_machine.proofs.Tests.{accepted-means, taken-good}
+use Rattle.tp_machine.proofs.Bytes.{written-length, written-head, written-at}
+
+-- ---- no malformed state is come to
+fresh-good : (limit : ℕ) → limit ≤ highest → Good (fresh limit)
+fresh-good limit h = record { few = omega arith; low = h; end-within = tt; each = tt; apart = tt }
+
+begin-good : (limit : ℕ) → Good (begin limit)
+unfolding begin
+begin-good limit = go (ltb highest limit) refl
+  where
+    go : (t : Bool) → ltb highest limit ≡ t → Good (fresh (cond t 0 limit))
+    go true e = fresh-good 0 (omega arith)
+    go false e = fresh-good limit (ltb-false highest limit e)
+
+step-good : (p : State) (seg buf : List ℕ) → Good p → Good (step p seg buf .state)
+unfolding step after
+step-good p seg buf g = go (judged p seg (length buf)) refl
+  where
+    go : (v : Verdict) → judged p seg (length buf) ≡ v → Good (after v p seg buf .state)
+    go (accepted u) e = taken-good p seg (length buf) (accepted-means p seg (length buf) .0 e)
+    go (refused r) e = g
+
+pub never-malformed : NeverMalformed
+unfolding clear
+never-malformed p (begins limit) = begin-good limit
+never-malformed q (comes {p} r seg buf) = step-good p seg buf (never-malformed p r)
+never-malformed q (clears {p} r) = fresh-good (p .limit) (never-malformed p r .low)
+
+-- ---- what accepted segments make of a state and of a buffer
+unfoldable pub takenAll : State → List (List ℕ) → State
+takenAll p [] = p
+takenAll p (s ∷ ss) = takenAll (taken p s) ss
+
+unfoldable pub writtenAll : List ℕ → List (List ℕ) → List ℕ
+writtenAll b [] = b
+writtenAll b (s ∷ ss) = writtenAll (written b s) ss
+
+-- each of them is accepted there
+abbrev pub Chain : State → ℕ → List (List ℕ) → Type 0
+Chain p room [] = Unit {0}
+Chain p room (s ∷ ss) = Accepted p s room × Chain (taken p s) room ss
+
+-- a run is what its accepted segments make of it
+pub record Ran (o : Out) (ss : List (List ℕ)) : Type 0 where
+  pub chain : Chain (o .state) (length (o .buffer)) (admitted o ss)
+  pub state : fed o ss .state ≡ takenAll (o .state) (admitted o ss)
+  pub buffer : fed o ss .buffer ≡ writtenAll (o .buffer) (admitted o ss)
+
+step-accepted : (p : State) (seg buf : List ℕ) (u : Unit {0}) → judged p seg (length buf) ≡ accepted u → step p seg buf ≡ record { answer = pass; state = taken p seg; buffer = written buf seg }
+unfolding step after
+step-accepted p seg buf u e = rw e
+
+step-refused : (p : State) (seg buf : List ℕ) (r : Refusal) → judged p seg (length buf) ≡ refused r → step p seg buf ≡ record { answer = refused r; state = p; buffer = buf }
+unfolding step after
+step-refused p seg buf r e = rw e
+
+pub ran : (o : Out) (ss : List (List ℕ)) → Ran o ss
+unfolding fed admitted takenAll writtenAll
+ran o [] = record { chain = tt; state = refl; buffer = refl }
+ran o (s ∷ ss) = go (λ x. ran x ss) (judged (o .state) s (length (o .buffer))) refl
+  where
+    -- one step leaves x, and from there the run goes on
+    from : (x : Out) → step (o .state) s (o .buffer) ≡ x → Chain (o .state) (length (o .buffer)) (ifAccepted (x .answer) s (admitted x ss))
+        → fed x ss .state ≡ takenAll (o .state) (ifAccepted (x .answer) s (admitted x ss)) → fed x ss .buffer ≡ writtenAll (o .buffer) (ifAccepted (x .answer) s (admitted x ss)) → Ran o (s ∷ ss)
+    from x q c a b = record {
+      chain = subst (λ (y : Out). Chain (o .state) (length (o .buffer)) (ifAccepted (y .answer) s (admitted y ss))) (sym q) c;
+      state = subst (λ (y : Out). fed y ss .state ≡ takenAll (o .state) (ifAccepted (y .answer) s (admitted y ss))) (sym q) a;
+      buffer = subst (λ (y : Out). fed y ss .buffer ≡ writtenAll (o .buffer) (ifAccepted (y .answer) s (admitted y ss))) (sym q) b;
+    }
+
+    go : ((x : Out) → Ran x ss) → (v : Verdict) → judged (o .state) s (length (o .buffer)) ≡ v → Ran o (s ∷ ss)
+    go later (accepted u) e =
+        let t = accepted-means (o .state) s (length (o .buffer)) .0 e in
+        let x : Out = record { answer = pass; state = taken (o .state) s; buffer = written (o .buffer) s } in
+        let k = later x in
+        from x (step-accepted (o .state) s (o .buffer) u e) (t, rw (written-length (o .buffer) s (t .segment .long) (t .fits)) at (k .chain)) (k .state) (k .buffer)
+    go later (refused r) e =
+        let x : Out = record { answer = refused r; state = o .state; buffer = o .buffer } in
+        let k = later x in
+        from x (step-refused (o .state) s (o .buffer) r e) (k .chain) (k .state) (k .buffer)
+
+-- ---- which places are covered, which range begins at 0, which end is known
+pub all-covers : (x : ℕ) (p : State) (ss : List (List ℕ)) → covered (takenAll p ss .ranges) x ≡ (any (spans x) ss || covered (p .ranges) x)
+unfolding takenAll any
+all-covers x p [] = refl
+all-covers x p (s ∷ ss) =
+    all-covers x (taken p s) ss ∙ ap (_||_ (any (spans x) ss)) (joining-covers (rangeOf s) (p .ranges) x)
+    ∙ or-swap (any (spans x) ss) (spans x s) (covered (p .ranges) x) ∙ sym (or-assoc (spans x s) (any (spans x) ss) (covered (p .ranges) x))
+
+pub all-heads : (p : State) (ss : List (List ℕ)) → any atZero (takenAll p ss .ranges) ≡ (any heads ss || any atZero (p .ranges))
+unfolding takenAll any
+all-heads p [] = refl
+all-heads p (s ∷ ss) =
+    all-heads (taken p s) ss ∙ ap (_||_ (any heads ss)) (joined-at-zero (rangeOf s) (p .ranges))
+    ∙ or-swap (any heads ss) (heads s) (any atZero (p .ranges)) ∙ sym (or-assoc (heads s) (any heads ss) (any atZero (p .ranges)))
+
+end-after : (m : Bool) (e k : TpEnd) → cond m e k ≡ cond (not m) k e
+end-after true e k = refl
+end-after false e k = refl
+
+pub all-end : (p : State) (ss : List (List ℕ)) → takenAll p ss .end ≡ newest final (λ s. Known (endOf s)) (p .end) ss
+unfolding takenAll newest
+all-end p [] = refl
+all-end p (s ∷ ss) = all-end (taken p s) ss ∙ ap (λ (e : TpEnd). newest final (λ t. Known (endOf t)) e ss) (end-after (more s) (p .end) (Known (endOf s)))
+
+pub all-limit : (p : State) (ss : List (List ℕ)) → takenAll p ss .limit ≡ p .limit
+unfolding takenAll
+all-limit p [] = refl
+all-limit p (s ∷ ss) = all-limit (taken p s) ss
+
+-- ---- what each segment's range has, and hulls keep, each range has
+pub all-each : (P : TpRange → Type 0) → ((g r : TpRange) → P g → P r → P (hullOf g r)) → (p : State) (ss : List (List ℕ)) → All (λ s. P (rangeOf s)) ss → All P (p .ranges) → All P (takenAll p ss .ranges)
+unfolding takenAll
+all-each P f p [] a e = e
+all-each P f p (s ∷ ss) a e = all-each P f (taken p s) ss (a .1) (all-joined P (rangeOf s) f (p .ranges) (a .0) e)
+
+pub chain-good : (p : State) (room : ℕ) (ss : List (List ℕ)) → Chain p room ss → Good p → Good (takenAll p ss)
+unfolding takenAll
+chain-good p room [] h g = g
+chain-good p room (s ∷ ss) h g = chain-good (taken p s) room ss (h .1) (taken-good p s room (h .0))
+
+-- each of them is a segment of at least 20 bytes that fits
+abbrev pub Fits : ℕ → List ℕ → Type 0
+Fits room s = (20 ≤ length s) × (16 + endOf s ≤ room)
+
+pub chain-fits : (p : State) (room : ℕ) (ss : List (List ℕ)) → Chain p room ss → All (Fits room) ss
+chain-fits p room [] h = tt
+chain-fits p room (s ∷ ss) h = ((h .0 .segment .long, h .0 .fits), chain-fits (taken p s) room ss (h .1))
+
+-- ---- the newest bytes: place i of a buffer, of which a segment s gives it what it gives exactly when a test passes
+pub all-length : (b : List ℕ) (ss : List (List ℕ)) → All (Fits (length b)) ss → length (writtenAll b ss) ≡ length b
+unfolding writtenAll
+all-length b [] a = refl
+all-length b (s ∷ ss) a =
+    let e = written-length b s (a .0 .0) (a .0 .1) in
+    all-length (written b s) ss (rw e (a .1)) ∙ e
+
+module _ (i : ℕ) (test : List ℕ → Bool) (gives : List ℕ → ℕ) (one : (b s : List ℕ) → Fits (length b) s → getD (written b s) i 0 ≡ cond (test s) (gives s) (getD b i 0)) where
+  pub all-newest : (b : List ℕ) (ss : List (List ℕ)) → All (Fits (length b)) ss → getD (writtenAll b ss) i 0 ≡ newest test gives (getD b i 0) ss
+  unfolding writtenAll newest
+  all-newest b [] a = refl
+  all-newest b (s ∷ ss) a = all-newest (written b s) ss (rw (written-length b s (a .0 .0) (a .0 .1)) (a .1)) ∙ ap (λ (v : ℕ). newest test gives v ss) (one b s (a .0))
+
+pub newest-byte : (x : ℕ) (b : List ℕ) (ss : List (List ℕ)) → All (Fits (length b)) ss → getD (writtenAll b ss) (16 + x) 0 ≡ newest (spans x) (brought x) (getD b (16 + x) 0) ss
+newest-byte x = all-newest (16 + x) (spans x) (brought x) (λ b s f. written-at b s (f .0) (f .1) x)
+
+pub newest-header : (i : ℕ) → i < 16 → (b : List ℕ) (ss : List (List ℕ)) → All (Fits (length b)) ss → getD (writtenAll b ss) i 0 ≡ newest heads (λ s. getD (header s) i 0) (getD b i 0) ss
+newest-header i h = all-newest i heads (λ s. getD (header s) i 0) (λ b s f. written-head b s (f .0) (f .1) i h)
+
+-- ---- the theorem
+ended : (p : State) (ss : List (List ℕ)) → p .end ≡ Unknown → Ended ss (takenAll p ss .end)
+ended p ss e = record {
+  by = λ s l. all-end p ss ∙ newest-latest final (λ t. Known (endOf t)) (p .end) ss s l;
+  by-none = λ h. all-end p ss ∙ newest-none final (λ t. Known (endOf t)) (p .end) ss h ∙ e;
+}
+
+filled : (b : List ℕ) (ss : List (List ℕ)) → All (Fits (length b)) ss → Filled b ss (writtenAll b ss)
+filled b ss a = record {
+  size = all-length b ss a;
+  covers = λ x s l. newest-byte x b ss a ∙ newest-latest (spans x) (brought x) (getD b (16 + x) 0) ss s l;
+  others = λ x h. newest-byte x b ss a ∙ newest-none (spans x) (brought x) (getD b (16 + x) 0) ss h;
+  headed = λ i h s l. newest-header i h b ss a ∙ newest-latest heads (λ t. getD (header t) i 0) (getD b i 0) ss s l;
+  unheaded = λ i h e. newest-header i h b ss a ∙ newest-none heads (λ t. getD (header t) i 0) (getD b i 0) ss e;
+}
+
+pub every-run : EveryRun
+unfolding begin any
+every-run limit buf ss =
+    let k = ran (opened limit buf) ss in
+    let segs : List (List ℕ) = admitted (opened limit buf) ss in
+    record {
+      good = rw (k .state) (chain-good (begin limit) (length buf) segs (k .chain) (begin-good limit));
+      limit-stays = ap (λ (p : State). p .limit) (k .state) ∙ all-limit (begin limit) segs;
+      covers = λ x. ap (λ (p : State). covered (p .ranges) x) (k .state) ∙ all-covers x (begin limit) segs ∙ or-false (any (spans x) segs);
+      ended = rw (k .state) (ended (begin limit) segs refl);
+      filled = rw (k .buffer) (filled buf segs (chain-fits (begin limit) (length buf) segs (k .chain)));
+    }
