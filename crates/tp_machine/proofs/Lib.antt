@@ -4,3 +4,4 @@ pub mod Joining
 pub mod Tests
 pub mod Bytes
 pub mod Runs
+pub mod Report
