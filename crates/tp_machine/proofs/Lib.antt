@@ -5,3 +5,4 @@ pub mod Tests
 pub mod Bytes
 pub mod Runs
 pub mod Report
+pub mod Order
