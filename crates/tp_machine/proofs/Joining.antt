@@ -1,7 +1,7 @@
 -- What joining keeps: a property of each range, that none touch, which places are covered, and that the order of the ranges is not seen.
 -- Assumes nothing.
-use Prim.Native.Nat.{ℕ, _≤_, _<_, min, max}
-use mathlib.Core.Path.{_≡_, refl, sym, ap, _∙_}
+use Prim.Native.Nat.{ℕ, _≤_, _<_}
+use mathlib.Core.Path.{_≡_, refl, sym, ap, ap₂, _∙_}
 use mathlib.Core.Bool.{Bool, true, false, _&&_, _||_, and-comm, or-assoc, or-true, true≢false}
 use mathlib.Core.List.{List, [], _∷_, _++_}
 use mathlib.Core.Logic.{_⊎_, inl, inr, ⊎-elim, _↔_}
@@ -13,7 +13,7 @@ use Rattle.numbers.specs.Answers.{All}
 use Rattle.tp_machine.specs.declared.TpRange.{TpRange}
 use Rattle.tp_machine.specs.Lists.{Pairwise, Rearranged, nothing, first, swap, next}
 use Rattle.tp_machine.specs.Ranges.{any, touch, hullOf, unless, keep, growIf, grow, joined, someTouch}
-use Rattle.tp_machine.specs.Meaning.{Apart}
+use Rattle.tp_machine.specs.Meaning.{range, Apart}
 use Rattle.tp_machine.specs.Runs.{holds}
 use Rattle.tp_machine.specs.Theorems.{JoiningCovers, JoiningOrderUnseen}
 use Rattle.tp_machine.proofs.Lists.{or-inv, or-cases, neither, or-swap, and-inv, same-test, all-append, all-map, all-both, any-all, all-any, any-append, any-moved, unmoved, append-moved}
@@ -177,7 +177,7 @@ hull-covers x n g r a m =
     same-test (holds x (hullOf g r)) (holds x g || holds x r) (λ e. there (held x (hullOf g r) e))
     (λ e. ⊎-elim (λ q. let k = held x g q in is-held x (hullOf g r) (omega arith) (omega arith)) (λ q. let k = held x r q in is-held x (hullOf g r) (omega arith) (omega arith)) (or-cases (holds x g) (holds x r) e))
   where
-    there : (min (g .start) (r .start) ≤ x) × (x < max (g .end) (r .end)) → (holds x g || holds x r) ≡ true
+    there : (hullOf g r .start ≤ x) × (x < hullOf g r .end) → (holds x g || holds x r) ≡ true
     there k = go (leb (g .start) x) refl (ltb x (g .end)) refl
       where
         in-r : r .start ≤ x → x < r .end → (holds x g || holds x r) ≡ true
@@ -198,10 +198,10 @@ atZero r = eqb (r .start) 0
 hull-at-zero : (g r : TpRange) → atZero (hullOf g r) ≡ (atZero g || atZero r)
 unfolding hullOf
 hull-at-zero g r =
-    same-test (atZero (hullOf g r)) (atZero g || atZero r) (λ e. there (eqb-true (min (g .start) (r .start)) 0 e) (leb (g .start) (r .start)) refl)
-    (λ e. eq-eqb (min (g .start) (r .start)) 0 (⊎-elim (λ p. omega (arith, eqb-true (g .start) 0 p)) (λ p. omega (arith, eqb-true (r .start) 0 p)) (or-cases (atZero g) (atZero r) e)))
+    same-test (atZero (hullOf g r)) (atZero g || atZero r) (λ e. there (eqb-true (hullOf g r .start) 0 e) (leb (g .start) (r .start)) refl)
+    (λ e. eq-eqb (hullOf g r .start) 0 (⊎-elim (λ p. omega (arith, eqb-true (g .start) 0 p)) (λ p. omega (arith, eqb-true (r .start) 0 p)) (or-cases (atZero g) (atZero r) e)))
   where
-    there : min (g .start) (r .start) ≡ 0 → (t : Bool) → leb (g .start) (r .start) ≡ t → (atZero g || atZero r) ≡ true
+    there : hullOf g r .start ≡ 0 → (t : Bool) → leb (g .start) (r .start) ≡ t → (atZero g || atZero r) ≡ true
     there e true p = rw (eq-eqb (g .start) 0 (omega (arith, leb-true (g .start) (r .start) p)))
     there e false p = rw (eq-eqb (r .start) 0 (omega (arith, leb-false (g .start) (r .start) p))) (or-true (atZero g))
 
@@ -209,12 +209,12 @@ pub joined-at-zero : (n : TpRange) (rs : List TpRange) → any atZero (joined n 
 joined-at-zero n rs = joined-any atZero n (λ g r _ _. hull-at-zero g r) rs
 
 -- ---- the order of the ranges
+same-range : (a b : TpRange) → a .start ≡ b .start → a .end ≡ b .end → a ≡ b
+same-range a b p q = ap₂ (λ (s e : ℕ). range s e) p q
+
 hull-swap : (g a b : TpRange) → hullOf (hullOf g a) b ≡ hullOf (hullOf g b) a
 unfolding hullOf
-hull-swap g a b =
-    let s : min (min (g .start) (a .start)) (b .start) ≡ min (min (g .start) (b .start)) (a .start) = omega arith in
-    let e : max (max (g .end) (a .end)) (b .end) ≡ max (max (g .end) (b .end)) (a .end) = omega arith in
-    rw (s, e)
+hull-swap g a b = same-range (hullOf (hullOf g a) b) (hullOf (hullOf g b) a) (omega arith) (omega arith)
 
 grow-swap : (g a b : TpRange) (s t : Bool) → growIf t (growIf s g a) b ≡ growIf s (growIf t g b) a
 grow-swap g a b true true = hull-swap g a b

@@ -1,8 +1,9 @@
 pub mod Cases
+pub mod Bounds
 pub mod Lists
 pub mod Joining
 pub mod Tests
-pub mod Bytes
+pub mod Writing
 pub mod Runs
 pub mod Report
 pub mod Order

@@ -12,7 +12,7 @@ use Rattle.tp_machine.specs.declared.TpEnd.{TpEnd}
 use Rattle.tp_machine.specs.Lists.{Rearranged}
 use Rattle.tp_machine.specs.Machine.{State, badRange, badState, taken, judged, after, step, fed, clear}
 use Rattle.tp_machine.specs.Taking.{isKnown, whole, complete, ready, taking}
-use Rattle.tp_machine.specs.Meaning.{rangeOf}
+use Rattle.tp_machine.specs.Meaning.{range, rangeOf}
 use Rattle.tp_machine.specs.Runs.{Same, Alike}
 use Rattle.tp_machine.specs.Theorems.{Unseen, OrderUnseen, RunsAlike}
 use Rattle.tp_machine.proofs.Lists.{same-test, any-moved, moved-back, length-moved, one-moved}
@@ -21,7 +21,7 @@ use Rattle.tp_machine.proofs.Tests.{whole-means}
 
 -- a list that is whole has no other order
 whole-one : {rs qs : List TpRange} → Rearranged rs qs → whole rs ≡ true → rs ≡ qs
-whole-one {rs} {qs} r e = let w = whole-means rs e in w .1 ∙ sym (one-moved r (record { start = 0; end = w .0 }) (w .1))
+whole-one {rs} {qs} r e = let w = whole-means rs e in w .1 ∙ sym (one-moved r (range 0 (w .0)) (w .1))
 
 whole-moved : {rs qs : List TpRange} → Rearranged rs qs → whole rs ≡ whole qs
 whole-moved {rs} {qs} r = same-test (whole rs) (whole qs) (λ e. sym (ap whole (whole-one r e)) ∙ e) (λ e. sym (ap whole (whole-one (moved-back r) e)) ∙ e)

@@ -18,17 +18,14 @@ use Rattle.tp_machine.specs.Segments.{endOf, header, pasted}
 use Rattle.tp_machine.specs.Ranges.{any, hullOf}
 use Rattle.tp_machine.specs.Machine.{State, badState, Out, begin, opened, fed}
 use Rattle.tp_machine.specs.Taking.{complete, endHeld, ready, finished, report, taking}
-use Rattle.tp_machine.specs.Meaning.{Complete}
+use Rattle.tp_machine.specs.Meaning.{range, Complete}
 use Rattle.tp_machine.specs.Runs.{admitted, covered, spans, heads, Filled, Reported}
 use Rattle.tp_machine.specs.Theorems.{Given, EveryReport}
 use Rattle.tp_machine.proofs.Lists.{all-map, latest-of, all-latest}
 use Rattle.tp_machine.proofs.Joining.{atZero, is-held}
 use Rattle.tp_machine.proofs.Tests.{good-means, complete-means}
-use Rattle.tp_machine.proofs.Bytes.{take-more-pasted, header-length}
+use Rattle.tp_machine.proofs.Writing.{take-more-pasted, header-length}
 use Rattle.tp_machine.proofs.Runs.{ran, all-heads, all-each, Fits, chain-fits, every-run}
-
-abbrev upTo : ℕ → TpRange
-upTo e = record { start = 0; end = e }
 
 -- ---- taking from a complete state, with room
 pub given : (p : State) (buf : List ℕ) (c : Complete p) → 16 + c .held ≤ length buf → ready p (length buf) ≡ accepted (c .held)
@@ -90,13 +87,13 @@ module _ (limit : ℕ) (buf : List ℕ) (ss : List (List ℕ)) where
       (all-each (λ r. 16 + r .end ≤ length buf) (fit-hull (length buf)) (begin limit) segs (all-map (Fits (length buf)) (λ s. 16 + endOf s ≤ length buf) (λ s f. f .1) segs all-fit) tt)
 
   -- a range that begins at 0 has come with a header
-  has-header : (e : ℕ) → out .state .ranges ≡ upTo e ∷ [] → any heads segs ≡ true
+  has-header : (e : ℕ) → out .state .ranges ≡ range 0 e ∷ [] → any heads segs ≡ true
   unfolding out segs begin any
   has-header e q = sym (or-false (any heads segs)) ∙ sym (all-heads (begin limit) segs) ∙ sym (ap (λ (p : State). any atZero (p .ranges)) (ran (opened limit buf) ss .state)) ∙ ap (any atZero) q
 
-  covers : (e x : ℕ) → out .state .ranges ≡ upTo e ∷ [] → x < e → any (spans x) segs ≡ true
+  covers : (e x : ℕ) → out .state .ranges ≡ range 0 e ∷ [] → x < e → any (spans x) segs ≡ true
   unfolding out segs any
-  covers e x q h = sym (every-run limit buf ss .covers x) ∙ ap (λ (rs : List TpRange). covered rs x) q ∙ ap (λ (t : Bool). t || false) (is-held x (upTo e) (omega arith) h)
+  covers e x q h = sym (every-run limit buf ss .covers x) ∙ ap (λ (rs : List TpRange). covered rs x) q ∙ ap (λ (t : Bool). t || false) (is-held x (range 0 e) (omega arith) h)
 
   complete-given : Complete (out .state) → Given out segs
   unfolding out segs taking

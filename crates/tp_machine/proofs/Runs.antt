@@ -21,19 +21,23 @@ use Rattle.tp_machine.specs.Theorems.{NeverMalformed, EveryRun}
 use Rattle.tp_machine.proofs.Lists.{or-swap, newest, newest-none, newest-latest}
 use Rattle.tp_machine.proofs.Joining.{all-joined, joining-covers, atZero, joined-at-zero}
 use Rattle.tp_machine.proofs.Tests.{accepted-means, taken-good}
-use Rattle.tp_machine.proofs.Bytes.{written-length, written-head, written-at}
+use Rattle.tp_machine.proofs.Writing.{written-length, written-head, written-at}
 
 -- ---- no malformed state is come to
 fresh-good : (limit : ℕ) → limit ≤ highest → Good (fresh limit)
 fresh-good limit h = record { few = omega arith; low = h; end-within = tt; each = tt; apart = tt }
 
+begin-low : (limit : ℕ) → begin limit .limit ≤ highest
+unfolding begin
+begin-low limit = go (ltb highest limit) refl
+  where
+    go : (t : Bool) → ltb highest limit ≡ t → begin limit .limit ≤ highest
+    go true e = rw e (omega arith)
+    go false e = rw e (omega (arith, ltb-false highest limit e))
+
 begin-good : (limit : ℕ) → Good (begin limit)
 unfolding begin
-begin-good limit = go (ltb highest limit) refl
-  where
-    go : (t : Bool) → ltb highest limit ≡ t → Good (fresh (cond t 0 limit))
-    go true e = fresh-good 0 (omega arith)
-    go false e = fresh-good limit (ltb-false highest limit e)
+begin-good limit = fresh-good (begin limit .limit) (begin-low limit)
 
 step-good : (p : State) (seg buf : List ℕ) → Good p → Good (step p seg buf .state)
 unfolding step after

@@ -20,13 +20,13 @@ use Rattle.tp_machine.specs.Segments.{tpType, isSegment, offset, more, s
 use Rattle.tp_machine.specs.Ranges.{any, hullOf, someTouch}
 use Rattle.tp_machine.specs.Machine.{most, highest, State, badRange, endPast, badState, tooBig, notAligned, conflicts, previous, tooShort, taken, tooMany, judged}
 use Rattle.tp_machine.specs.Taking.{isKnown, whole, complete}
-use Rattle.tp_machine.specs.Meaning.{rangeOf, Fine, Within, Good, Agrees, Accepted}
+use Rattle.tp_machine.specs.Meaning.{types, range, rangeOf, Fine, Within, Good, Agrees, Accepted}
 use Rattle.tp_machine.specs.Theorems.{SegmentMeans, GoodMeans, AcceptedMeans, CompleteMeans}
 use Rattle.tp_machine.proofs.Lists.{or-inv, or-cases, neither, and-inv, and-fails, not-both, all-map, any-all, all-any}
 use Rattle.tp_machine.proofs.Joining.{all-joined, all-apart, joined-apart}
 
 -- ---- 30
-type-means : (t : ℕ) → (tpType t ≡ true) ↔ OneOf t (0x20 ∷ 0x21 ∷ 0x22 ∷ 0xa0 ∷ 0xa1 ∷ [])
+type-means : (t : ℕ) → (tpType t ≡ true) ↔ OneOf t types
 unfolding tpType
 type-means t = (
   (λ e. ⊎-elim (λ p. inl (eqb-true t 0x20 p)) (λ f. inr (⊎-elim (λ p. inl (eqb-true t 0x21 p)) (λ g. inr (⊎-elim (λ p. inl (eqb-true t 0x22 p))
@@ -128,10 +128,7 @@ known-means : (e : TpEnd) → isKnown e ≡ true → (x : ℕ) × (e ≡ Known x
 known-means Unknown h = absurd (false≢true h)
 known-means (Known x) h = (x, refl)
 
-abbrev range : ℕ → ℕ → TpRange
-range s e = record { start = s; end = e }
-
-pub whole-means : (rs : List TpRange) → whole rs ≡ true → (e : ℕ) × (rs ≡ record { start = 0; end = e } ∷ [])
+pub whole-means : (rs : List TpRange) → whole rs ≡ true → (e : ℕ) × (rs ≡ range 0 e ∷ [])
 whole-means [] h = absurd (false≢true h)
 whole-means (r ∷ []) h = (r .end, ap (λ (x : ℕ). range x (r .end) ∷ []) (eqb-true (r .start) 0 h))
 whole-means (r ∷ x ∷ rs) h = absurd (false≢true h)

@@ -4,7 +4,7 @@ use Prim.Native.Nat.{ℕ, _+_, _%_, _≤_, _<_}
 use mathlib.Core.Path.{_≡_}
 use mathlib.Core.Bool.{Bool, true, false}
 use mathlib.Core.List.{List, [], _∷_}
-use mathlib.Core.Logic.{_⊎_}
+use mathlib.Core.Logic.{_⊎_, _≢_}
 use lib.ListN.{length, getD}
 use Rattle.numbers.specs.Bytes.{at32}
 use Rattle.numbers.specs.Answers.{All}
@@ -12,20 +12,34 @@ use Rattle.tp_machine.specs.declared.TpRange.{TpRange}
 use Rattle.tp_machine.specs.declared.TpEnd.{TpEnd}
 use Rattle.tp_machine.specs.declared.TpEnd.the-variants.{Unknown, Known}
 use Rattle.tp_machine.specs.Lists.{OneOf, Pairwise}
-use Rattle.tp_machine.specs.Segments.{offset, more, size, endOf}
+use Rattle.tp_machine.specs.Segments.{offset, more, size}
 use Rattle.tp_machine.specs.Ranges.{joined}
 use Rattle.tp_machine.specs.Machine.{most, highest, State}
 
 -- ---- not 30
+
+-- the types with the TP bit
+abbrev pub types : List ℕ
+types = 0x20 ∷ 0x21 ∷ 0x22 ∷ 0xa0 ∷ 0xa1 ∷ []
+
 pub record Segment (s : List ℕ) : Type 0 where
   pub long : 20 ≤ length s
   pub counted : at32 s 4 + 8 ≡ length s
   pub version : getD s 12 0 ≡ 1
-  pub type : OneOf (getD s 14 0) (0x20 ∷ 0x21 ∷ 0x22 ∷ 0xa0 ∷ 0xa1 ∷ [])
+  pub type : OneOf (getD s 14 0) types
 
--- the range that a segment spans
+-- the header h that a segment brings: its 16 header bytes, with 0x20 cleared in byte 14 (each of the types has it)
+pub record HeaderOf (s h : List ℕ) : Type 0 where
+  pub size : length h ≡ 16
+  pub type : getD h 14 0 + 0x20 ≡ getD s 14 0
+  pub others : (i : ℕ) → i < 16 → i ≢ 14 → getD h i 0 ≡ getD s i 0
+
+-- a range, and the one that a segment spans
+abbrev pub range : (start end : ℕ) → TpRange
+range start end = record { start = start; end = end }
+
 abbrev pub rangeOf : List ℕ → TpRange
-rangeOf s = record { start = offset s; end = endOf s }
+rangeOf s = range (offset s) (offset s + size s)
 
 -- ---- not 38
 
@@ -72,4 +86,4 @@ pub record Complete (p : State) : Type 0 where
   pub end : ℕ
   pub known : p .end ≡ Known end
   pub held : ℕ
-  pub one-range : p .ranges ≡ record { start = 0; end = held } ∷ []
+  pub one-range : p .ranges ≡ range 0 held ∷ []

@@ -7,16 +7,19 @@ use mathlib.Core.Logic.{_↔_}
 use Rattle.numbers.specs.Answers.{accepted, pass}
 use Rattle.tp_machine.specs.declared.TpRange.{TpRange}
 use Rattle.tp_machine.specs.Lists.{Rearranged}
-use Rattle.tp_machine.specs.Segments.{isSegment}
+use Rattle.tp_machine.specs.Segments.{isSegment, header}
 use Rattle.tp_machine.specs.Ranges.{any, joined}
 use Rattle.tp_machine.specs.Machine.{State, Out, badState, judged, step, begin, opened, fed, clear}
 use Rattle.tp_machine.specs.Taking.{complete, taking}
-use Rattle.tp_machine.specs.Meaning.{Segment, Good, Accepted, Complete}
+use Rattle.tp_machine.specs.Meaning.{Segment, HeaderOf, Good, Accepted, Complete}
 use Rattle.tp_machine.specs.Runs.{Reached, admitted, holds, covered, spans, Ended, Filled, Reported, Same, Alike}
 
 -- ---- the tests mean what document 01 says, both ways
 abbrev pub SegmentMeans : Type 0
 SegmentMeans = (s : List ℕ) → (isSegment s ≡ true) ↔ Segment s
+
+abbrev pub HeaderMeans : Type 0
+HeaderMeans = (s : List ℕ) → Segment s → HeaderOf s (header s)
 
 abbrev pub GoodMeans : Type 0
 GoodMeans = (p : State) → (badState p ≡ false) ↔ Good p
