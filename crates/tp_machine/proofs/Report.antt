@@ -105,7 +105,9 @@ module _ (limit : ℕ) (buf : List ℕ) (ss : List (List ℕ)) where
       let g : ready (out .state) (length (out .buffer)) ≡ accepted e = given (out .state) (out .buffer) c l in
       record {
         size = e;
+        one-range = c .one-range;
         answer = g;
+        buffer = rw g;
         reported = rw g (reported buf segs (out .buffer) (run .filled) e l all-fit (has-header e (c .one-range)) (λ x. covers e x (c .one-range)));
       }
 

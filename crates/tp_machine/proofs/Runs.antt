@@ -9,6 +9,7 @@ use lib.Dec.{ltb}
 use lib.ListN.{length, getD}
 use Rattle.numbers.specs.Refusals.{Refusal}
 use Rattle.numbers.specs.Answers.{accepted, refused, Verdict, pass, All}
+use Rattle.numbers.proofs.AnswerLaws.{not-refused}
 use Rattle.tp_machine.specs.declared.TpRange.{TpRange}
 use Rattle.tp_machine.specs.declared.TpEnd.{TpEnd}
 use Rattle.tp_machine.specs.declared.TpEnd.the-variants.{Unknown, Known}
@@ -17,11 +18,28 @@ use Rattle.tp_machine.specs.Ranges.{any, hullOf}
 use Rattle.tp_machine.specs.Machine.{highest, State, fresh, taken, judged, Out, after, step, begin, opened, fed, clear}
 use Rattle.tp_machine.specs.Meaning.{rangeOf, Good, Accepted}
 use Rattle.tp_machine.specs.Runs.{begins, comes, clears, ifAccepted, admitted, covered, spans, brought, heads, final, Ended, Filled}
-use Rattle.tp_machine.specs.Theorems.{NeverMalformed, EveryRun}
+use Rattle.tp_machine.specs.Theorems.{Stepped, EveryStep, BytesUnseen, NeverMalformed, EveryRun}
 use Rattle.tp_machine.proofs.Lists.{or-swap, newest, newest-none, newest-latest}
 use Rattle.tp_machine.proofs.Joining.{all-joined, joining-covers, atZero, joined-at-zero}
 use Rattle.tp_machine.proofs.Tests.{accepted-means, taken-good}
 use Rattle.tp_machine.proofs.Writing.{written-length, written-head, written-at}
+
+-- ---- one call
+pub every-step : EveryStep
+unfolding step after
+every-step p seg buf = go (judged p seg (length buf)) refl
+  where
+    go : (v : Verdict) → judged p seg (length buf) ≡ v → Stepped p seg buf (after v p seg buf)
+    go (accepted u) e = record { answer = sym e; accepts = λ _. (refl, refl); refuses = λ r q. not-refused r tt (sym q) }
+    go (refused r) e = record { answer = sym e; accepts = λ q. not-refused r tt q; refuses = λ _ _. (refl, refl) }
+
+pub bytes-unseen : BytesUnseen
+unfolding step after
+bytes-unseen p seg b c e = (every-step p seg b .answer ∙ ap (judged p seg) e ∙ sym (every-step p seg c .answer), rw e (go (judged p seg (length c))))
+  where
+    go : (v : Verdict) → after v p seg b .state ≡ after v p seg c .state
+    go (accepted u) = refl
+    go (refused r) = refl
 
 -- ---- no malformed state is come to
 fresh-good : (limit : ℕ) → limit ≤ highest → Good (fresh limit)

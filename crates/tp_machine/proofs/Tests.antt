@@ -47,7 +47,7 @@ segment-means s = (
 )
 
 -- ---- 38
-fine-means : (p : State) (r : TpRange) → (badRange p r ≡ false) ↔ Fine (p .limit) r
+fine-means : (p : State) (r : TpRange) → (badRange p r ≡ false) ↔ Fine p r
 unfolding badRange
 fine-means p r = (
   (λ e. let a = or-inv (ltb (r .end) (r .start)) _ e in record { forth = ltb-false (r .end) (r .start) (a .0); within = ltb-false (p .limit) (r .end) (a .1) }),
@@ -70,11 +70,11 @@ good-means p = (
         few = ltb-false most (length (p .ranges)) (a .0);
         low = ltb-false highest (p .limit) (b .0);
         end-within = within-means (p .end) (p .limit) .0 (c .0);
-        each = all-map (λ r. badRange p r ≡ false) (Fine (p .limit)) (λ r. fine-means p r .0) (p .ranges) (any-all (badRange p) (p .ranges) (d .0));
+        each = all-map (λ r. badRange p r ≡ false) (Fine p) (λ r. fine-means p r .0) (p .ranges) (any-all (badRange p) (p .ranges) (d .0));
         apart = all-apart (p .ranges) .0 (d .1);
       }),
   (λ g.
-      let each = all-map (Fine (p .limit)) (λ r. badRange p r ≡ false) (λ r. fine-means p r .1) (p .ranges) (g .each) in
+      let each = all-map (Fine p) (λ r. badRange p r ≡ false) (λ r. fine-means p r .1) (p .ranges) (g .each) in
       neither _ _ (le-ltb most (length (p .ranges)) (g .few)) (neither _ _ (le-ltb highest (p .limit) (g .low))
       (neither _ _ (within-means (p .end) (p .limit) .1 (g .end-within)) (neither _ _ (all-any (badRange p) (p .ranges) each) (all-apart (p .ranges) .1 (g .apart)))))),
 )
@@ -150,9 +150,13 @@ within-after : (m : Bool) (e : TpEnd) (x limit : ℕ) → x ≤ limit → Within
 within-after true e x limit h w = w
 within-after false e x limit h w = h
 
-fine-hull : (limit : ℕ) (g r : TpRange) → Fine limit g → Fine limit r → Fine limit (hullOf g r)
+fine-hull : (p : State) (g r : TpRange) → Fine p g → Fine p r → Fine p (hullOf g r)
 unfolding hullOf
-fine-hull limit g r f h = record { forth = omega arith; within = omega arith }
+fine-hull p g r f h = record { forth = omega arith; within = omega arith }
+
+-- a range that was fine stays so
+still-fine : (p : State) (seg : List ℕ) (r : TpRange) → Fine p r → Fine (taken p seg) r
+still-fine p seg r f = record { forth = f .forth; within = f .within }
 
 pub taken-good : (p : State) (seg : List ℕ) (room : ℕ) → Accepted p seg room → Good (taken p seg)
 taken-good p seg room t =
@@ -161,7 +165,7 @@ taken-good p seg room t =
       few = t .few;
       low = g .low;
       end-within = within-after (more seg) (p .end) (endOf seg) (p .limit) (t .within) (g .end-within);
-      each = all-joined (Fine (p .limit)) (rangeOf seg) (fine-hull (p .limit)) (p .ranges) (record { forth = omega arith; within = t .within }) (g .each);
+      each = all-joined (Fine (taken p seg)) (rangeOf seg) (fine-hull (taken p seg)) (p .ranges) (record { forth = omega arith; within = t .within }) (all-map (Fine p) (Fine (taken p seg)) (still-fine p seg) (p .ranges) (g .each));
       apart = all-apart (taken p seg .ranges) .0
-          (joined-apart (rangeOf seg) (p .ranges) (all-apart (p .ranges) .1 (g .apart)) (all-map (Fine (p .limit)) (λ r. r .start ≤ r .end) (λ r f. f .forth) (p .ranges) (g .each)));
+          (joined-apart (rangeOf seg) (p .ranges) (all-apart (p .ranges) .1 (g .apart)) (all-map (Fine p) (λ r. r .start ≤ r .end) (λ r f. f .forth) (p .ranges) (g .each)));
     }

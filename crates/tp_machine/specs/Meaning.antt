@@ -47,9 +47,10 @@ rangeOf s = range (offset s) (offset s + size s)
 abbrev pub Apart : TpRange → TpRange → Type 0
 Apart a b = (a .end < b .start) ⊎ (b .end < a .start)
 
-pub record Fine (limit : ℕ) (r : TpRange) : Type 0 where
+-- a range as a state may hold it
+pub record Fine (p : State) (r : TpRange) : Type 0 where
   pub forth : r .start ≤ r .end
-  pub within : r .end ≤ limit
+  pub within : r .end ≤ p .limit
 
 -- an end, if known, is at most x
 abbrev pub Within : TpEnd → ℕ → Type 0
@@ -60,7 +61,7 @@ pub record Good (p : State) : Type 0 where
   pub few : length (p .ranges) ≤ most
   pub low : p .limit ≤ highest
   pub end-within : Within (p .end) (p .limit)
-  pub each : All (Fine (p .limit)) (p .ranges)
+  pub each : All (Fine p) (p .ranges)
   pub apart : Pairwise Apart (p .ranges)
 
 -- ---- not 31 to 35

@@ -1,17 +1,20 @@
 -- What is shown of the machine: each a statement, whose proof of that name is in proofs/. Assumes nothing: these are definitions.
-use Prim.Native.Nat.{ℕ}
+use Prim.Native.Nat.{ℕ, _+_}
 use mathlib.Core.Path.{_≡_}
 use mathlib.Core.Bool.{true, false, _||_}
-use mathlib.Core.List.{List}
+use mathlib.Core.List.{List, [], _∷_}
 use mathlib.Core.Logic.{_↔_}
-use Rattle.numbers.specs.Answers.{accepted, pass}
+use lib.ListN.{length}
+use Rattle.numbers.specs.Bytes.{be32}
+use Rattle.numbers.specs.Refusals.{Refusal}
+use Rattle.numbers.specs.Answers.{accepted, refused, pass}
 use Rattle.tp_machine.specs.declared.TpRange.{TpRange}
 use Rattle.tp_machine.specs.Lists.{Rearranged}
-use Rattle.tp_machine.specs.Segments.{isSegment, header}
+use Rattle.tp_machine.specs.Segments.{isSegment, header, pasted, written}
 use Rattle.tp_machine.specs.Ranges.{any, joined}
-use Rattle.tp_machine.specs.Machine.{State, Out, badState, judged, step, begin, opened, fed, clear}
+use Rattle.tp_machine.specs.Machine.{State, Out, badState, taken, judged, step, begin, opened, fed, clear}
 use Rattle.tp_machine.specs.Taking.{complete, taking}
-use Rattle.tp_machine.specs.Meaning.{Segment, HeaderOf, Good, Accepted, Complete}
+use Rattle.tp_machine.specs.Meaning.{Segment, HeaderOf, range, Good, Accepted, Complete}
 use Rattle.tp_machine.specs.Runs.{Reached, admitted, holds, covered, spans, Ended, Filled, Reported, Same, Alike}
 
 -- ---- the tests mean what document 01 says, both ways
@@ -29,6 +32,19 @@ AcceptedMeans = (p : State) (seg : List ℕ) (room : ℕ) → (judged p seg room
 
 abbrev pub CompleteMeans : Type 0
 CompleteMeans = (p : State) → (complete p ≡ true) ↔ Complete p
+
+-- ---- one call: its answer is the first refusal or none; what an accepted segment leaves, and that a refusal leaves state and buffer as they were
+pub record Stepped (p : State) (seg buf : List ℕ) (o : Out) : Type 0 where
+  pub answer : o .answer ≡ judged p seg (length buf)
+  pub accepts : o .answer ≡ pass → (o .state ≡ taken p seg) × (o .buffer ≡ written buf seg)
+  pub refuses : (r : Refusal) → o .answer ≡ refused r → (o .state ≡ p) × (o .buffer ≡ buf)
+
+abbrev pub EveryStep : Type 0
+EveryStep = (p : State) (seg buf : List ℕ) → Stepped p seg buf (step p seg buf)
+
+-- the bytes of the buffer are not seen, only how many they are
+abbrev pub BytesUnseen : Type 0
+BytesUnseen = (p : State) (seg b c : List ℕ) → length b ≡ length c → (step p seg b .answer ≡ step p seg c .answer) × (step p seg b .state ≡ step p seg c .state)
 
 -- ---- joining: the places covered are those of the new range and of the old ones; the set of ranges depends on the set before
 abbrev pub JoiningCovers : Type 0
@@ -52,10 +68,12 @@ pub record Run (limit : ℕ) (buf : List ℕ) (ss : List (List ℕ)) : Type 0 wh
 abbrev pub EveryRun : Type 0
 EveryRun = (limit : ℕ) (buf : List ℕ) (ss : List (List ℕ)) → Run limit buf ss
 
--- a complete stream's report is given, whatever came
+-- a complete stream's report is given, whatever came: the one range's bytes; of the buffer, bytes 4 to 7 change
 pub record Given (o : Out) (segs : List (List ℕ)) : Type 0 where
   pub size : ℕ
+  pub one-range : o .state .ranges ≡ range 0 size ∷ []
   pub answer : taking (o .state) (o .buffer) .answer ≡ accepted size
+  pub buffer : taking (o .state) (o .buffer) .buffer ≡ pasted (o .buffer) 4 (be32 (size + 8))
   pub reported : Reported segs size (taking (o .state) (o .buffer) .part)
 
 abbrev pub EveryReport : Type 0
