@@ -2,7 +2,7 @@
 -- Assumes nothing.
 use Prim.Native.Nat.{ℕ, _≤_, _<_}
 use mathlib.Core.Path.{_≡_, refl, sym, ap, ap₂, _∙_}
-use mathlib.Core.Bool.{Bool, true, false, _&&_, _||_, and-comm, or-assoc, or-true, true≢false}
+use mathlib.Core.Bool.{Bool, true, false, _&&_, _||_, and-comm, or-assoc, or-true, true≢false, false≢true}
 use mathlib.Core.List.{List, [], _∷_, _++_}
 use mathlib.Core.Logic.{_⊎_, inl, inr, ⊎-elim, _↔_}
 use native.Mathlib.Nat.{le-refl}
@@ -12,9 +12,10 @@ use lib.Dec.{leb, ltb, eqb}
 use Rattle.numbers.specs.Answers.{All}
 use Rattle.tp_machine.specs.declared.TpRange.{TpRange}
 use Rattle.tp_machine.specs.Lists.{Pairwise, Rearranged, nothing, first, swap, next}
+use Rattle.tp_machine.specs.Segments.{offset, endOf}
 use Rattle.tp_machine.specs.Ranges.{any, touch, hullOf, unless, keep, growIf, grow, joined, someTouch}
-use Rattle.tp_machine.specs.Meaning.{range, Apart}
-use Rattle.tp_machine.specs.Runs.{holds}
+use Rattle.tp_machine.specs.Meaning.{range, rangeOf, Apart}
+use Rattle.tp_machine.specs.Runs.{around, Lies, holds}
 use Rattle.tp_machine.specs.Theorems.{JoiningCovers, JoiningOrderUnseen}
 use Rattle.tp_machine.proofs.Lists.{or-inv, or-cases, neither, or-swap, and-inv, same-test, all-append, all-map, all-both, any-all, all-any, any-append, any-moved, unmoved, append-moved}
 
@@ -159,6 +160,45 @@ module _ (f : TpRange → Bool) (n : TpRange) (hull : (g r : TpRange) → Around
   joined-any : (rs : List TpRange) → any f (joined n rs) ≡ (f n || any f rs)
   unfolding joined
   joined-any rs = any-append f (keep n rs) (grow n n rs) ∙ grow-any n rs (le-refl (n .start), le-refl (n .end))
+
+-- ---- a test that a hull passes where one of the two does: it stays passed
+module _ (f : TpRange → Bool) (n : TpRange) (hull : (g r : TpRange) → (f g ≡ true) ⊎ (f r ≡ true) → f (hullOf g r) ≡ true) where
+  grow-some : (g : TpRange) (rs : List TpRange) → (f g ≡ true) ⊎ (any f rs ≡ true) → (f (grow n g rs) || any f (keep n rs)) ≡ true
+  unfolding keep grow any
+  grow-some g [] (inl e) = rw e
+  grow-some g [] (inr e) = absurd (false≢true e)
+  grow-some g (r ∷ rs) o = go (λ h. grow-some h rs) (touch n r) o
+    where
+      go : ((h : TpRange) → (f h ≡ true) ⊎ (any f rs ≡ true) → (f (grow n h rs) || any f (keep n rs)) ≡ true) → (t : Bool) → (f g ≡ true) ⊎ ((f r || any f rs) ≡ true) → (f (grow n (growIf t g r) rs) || any f (unless t r (keep n rs))) ≡ true
+      go later true q =
+          later (hullOf g r) (⊎-elim (λ e. inl (hull g r (inl e))) (λ e. ⊎-elim (λ k. inl (hull g r (inr k))) (λ k. inr k) (or-cases (f r) (any f rs) e)) q)
+      go later false q =
+          or-swap (f (grow n g rs)) (f r) (any f (keep n rs))
+          ∙ ⊎-elim (λ e. rw (later g (inl e)) (or-true (f r))) (λ e. ⊎-elim (λ k. rw k) (λ k. rw (later g (inr k)) (or-true (f r))) (or-cases (f r) (any f rs) e)) q
+
+  joined-some : (rs : List TpRange) → (f n ≡ true) ⊎ (any f rs ≡ true) → any f (joined n rs) ≡ true
+  unfolding joined
+  joined-some rs o = any-append f (keep n rs) (grow n n rs) ∙ grow-some n rs o
+
+lies-around : (s : List ℕ) (r : TpRange) → around s r ≡ true → Around (rangeOf s) r
+unfolding around
+lies-around s r e = let o = and-inv (leb (r .start) (offset s)) (leb (endOf s) (r .end)) e in (leb-true (r .start) (offset s) (o .0), leb-true (endOf s) (r .end) (o .1))
+
+is-around : (s : List ℕ) (r : TpRange) → Around (rangeOf s) r → around s r ≡ true
+unfolding around
+is-around s r a = rw (le-leb (r .start) (offset s) (a .0), le-leb (endOf s) (r .end) (a .1))
+
+hull-lies : (s : List ℕ) (g r : TpRange) → (around s g ≡ true) ⊎ (around s r ≡ true) → around s (hullOf g r) ≡ true
+unfolding hullOf
+hull-lies s g r (inl e) = let a = lies-around s g e in is-around s (hullOf g r) (omega arith, omega arith)
+hull-lies s g r (inr e) = let a = lies-around s r e in is-around s (hullOf g r) (omega arith, omega arith)
+
+-- a segment lies in one of the joined ranges if its range has come, or if it lay in one before
+pub new-lies : (s : List ℕ) (rs : List TpRange) → Lies (joined (rangeOf s) rs) s
+new-lies s rs = joined-some (around s) (rangeOf s) (hull-lies s) rs (inl (is-around s (rangeOf s) (le-refl (offset s), le-refl (endOf s))))
+
+pub still-lies : (s : List ℕ) (n : TpRange) (rs : List TpRange) → Lies rs s → Lies (joined n rs) s
+still-lies s n rs h = joined-some (around s) n (hull-lies s) rs (inr h)
 
 -- ---- the places that are covered
 pub held : (x : ℕ) (r : TpRange) → holds x r ≡ true → (r .start ≤ x) × (x < r .end)

@@ -4,6 +4,7 @@ pub mod Lists
 pub mod Joining
 pub mod Tests
 pub mod Writing
+pub mod Steps
 pub mod Runs
 pub mod Report
 pub mod Order

@@ -3,12 +3,12 @@ use Prim.Native.Nat.{ℕ, suc}
 use mathlib.Core.Path.{_≡_, refl, sym, ap, subst, _∙_}
 use mathlib.Core.Bool.{Bool, true, false, _&&_, _||_, cond, true≢false, false≢true}
 use mathlib.Core.List.{List, [], _∷_, _++_}
-use mathlib.Core.Logic.{_⊎_, inl, inr, ⊎-elim}
+use mathlib.Core.Logic.{_⊎_, inl, inr, ⊎-elim, _≢_}
 use native.Mathlib.Omega.{arith}
 use lib.ListN.{length}
 use Rattle.numbers.specs.Answers.{All}
 use Rattle.tp_machine.specs.Ranges.{any}
-use Rattle.tp_machine.specs.Lists.{Rearranged, nothing, first, swap, next, Latest}
+use Rattle.tp_machine.specs.Lists.{OneOf, Pairwise, Rearranged, nothing, first, swap, next, Latest}
 
 -- ---- tests
 pub or-inv : (a b : Bool) → (a || b) ≡ false → (a ≡ false) × (b ≡ false)
@@ -130,6 +130,49 @@ module _ {A : Type 0} where
       let z : _≡_ {A = ℕ} 0 1 = cc in
       absurd (omega arith)
   one-moved (next r s) x e = one-moved s x (one-moved r x e)
+
+-- ---- one of the elements
+module _ {A : Type 0} where
+  pub one-of-moved : {l m : List A} (x : A) → Rearranged l m → OneOf x l → OneOf x m
+  one-of-moved x nothing o = o
+  one-of-moved x (first r) (inl e) = inl e
+  one-of-moved x (first r) (inr o) = inr (one-of-moved x r o)
+  one-of-moved x swap (inl e) = inr (inl e)
+  one-of-moved x swap (inr (inl e)) = inl e
+  one-of-moved x swap (inr (inr o)) = inr (inr o)
+  one-of-moved x (next r s) o = one-of-moved x s (one-of-moved x r o)
+
+  -- each is one of them
+  pub each-one : (xs : List A) → All (λ x. OneOf x xs) xs
+  each-one [] = tt
+  each-one (x ∷ xs) = (inl refl, all-map (λ y. OneOf y xs) (λ y. OneOf y (x ∷ xs)) (λ y o. inr o) xs (each-one xs))
+
+  -- it can be brought to the front
+  to-front : (x : A) (ys : List A) → OneOf x ys → (zs : List A) × Rearranged ys (x ∷ zs)
+  to-front x [] o = absurd o
+  to-front x (y ∷ ys) (inl e) = (ys, subst (λ (z : A). Rearranged (y ∷ ys) (z ∷ ys)) (sym e) (unmoved (y ∷ ys)))
+  to-front x (y ∷ ys) (inr o) = let w = to-front x ys o in (y ∷ w .0, next (first (w .1)) swap)
+
+  distinct-moved : {l m : List A} → Rearranged l m → Pairwise _≢_ l → Pairwise _≢_ m
+  distinct-moved nothing h = h
+  distinct-moved (first {a} r) h = (all-moved (_≢_ a) r (h .0), distinct-moved r (h .1))
+  distinct-moved swap h = (((λ e. h .0 .0 (sym e)), h .1 .0), (h .0 .1, h .1 .1))
+  distinct-moved (next r s) h = distinct-moved s (distinct-moved r h)
+
+  others : (x : A) (xs ys : List A) → All (_≢_ x) ys → All (λ y. OneOf y (x ∷ xs)) ys → All (λ y. OneOf y xs) ys
+  others x xs [] n o = tt
+  others x xs (y ∷ ys) n o = (⊎-elim (λ e. absurd (n .0 (sym e))) (λ k. k) (o .0), others x xs ys (n .1) (o .1))
+
+  -- lists with the same elements, in which no element stands twice, differ only in their order
+  pub same-elements : (xs ys : List A) → Pairwise _≢_ xs → Pairwise _≢_ ys → All (λ x. OneOf x ys) xs → All (λ y. OneOf y xs) ys → Rearranged xs ys
+  same-elements [] [] p q t b = nothing
+  same-elements [] (y ∷ ys) p q t b = absurd (b .0)
+  same-elements (x ∷ xs) ys p q t b =
+      let w = to-front x ys (t .0) in
+      let d = distinct-moved (w .1) q in
+      let there = all-map (λ y. OneOf y ys) (λ y. OneOf y (x ∷ w .0)) (λ y. one-of-moved y (w .1)) xs (t .1) in
+      let back = all-moved (λ y. OneOf y (x ∷ xs)) (w .1) b in
+      next (first (same-elements xs (w .0) (p .1) (d .1) (others x (w .0) xs (p .0) there) (others x xs (w .0) (d .0) (back .1)))) (moved-back (w .1))
 
 -- ---- the latest element that passes a test
 module _ {A : Type 0} (f : A → Bool) where

@@ -1,23 +1,38 @@
 -- The order of the ranges is not seen: states with the same ranges answer alike, and come to states with the same ranges. Assumes nothing.
-use Prim.Native.Nat.{ℕ}
+use Prim.Native.Nat.{ℕ, _≤_}
 use mathlib.Core.Path.{_≡_, refl, sym, ap, subst, _∙_}
 use mathlib.Core.Bool.{Bool, true, false, _||_, not, and-false}
 use mathlib.Core.List.{List, [], _∷_}
+use mathlib.Core.Logic.{⊎-elim, _≢_}
+use native.Mathlib.Omega.{arith}
 use lib.Dec.{ltb}
 use lib.ListN.{length}
 use Rattle.numbers.specs.Refusals.{malformed-state, not-complete}
-use Rattle.numbers.specs.Answers.{accepted, refused, Verdict, refuse_when_else_}
+use Rattle.numbers.specs.Answers.{accepted, refused, Verdict, refuse_when_else_, All}
 use Rattle.tp_machine.specs.declared.TpRange.{TpRange}
 use Rattle.tp_machine.specs.declared.TpEnd.{TpEnd}
-use Rattle.tp_machine.specs.Lists.{Rearranged}
+use Rattle.tp_machine.specs.Lists.{Pairwise, Rearranged}
 use Rattle.tp_machine.specs.Machine.{State, badRange, badState, taken, judged, after, step, fed, clear}
 use Rattle.tp_machine.specs.Taking.{isKnown, whole, complete, ready, taking}
-use Rattle.tp_machine.specs.Meaning.{range, rangeOf}
+use Rattle.tp_machine.specs.Meaning.{range, rangeOf, Apart, Fine, Good}
 use Rattle.tp_machine.specs.Runs.{Same, Alike}
-use Rattle.tp_machine.specs.Theorems.{Unseen, OrderUnseen, RunsAlike}
-use Rattle.tp_machine.proofs.Lists.{same-test, any-moved, moved-back, length-moved, one-moved}
+use Rattle.tp_machine.specs.Theorems.{SetIsOrder, Unseen, OrderUnseen, RunsAlike}
+use Rattle.tp_machine.proofs.Lists.{same-test, all-map, same-elements, any-moved, moved-back, length-moved, one-moved}
 use Rattle.tp_machine.proofs.Joining.{joining-order-unseen, touch-moved}
 use Rattle.tp_machine.proofs.Tests.{whole-means}
+
+-- ---- the set
+distinct : (rs : List TpRange) → All (λ r. r .start ≤ r .end) rs → Pairwise Apart rs → Pairwise _≢_ rs
+distinct [] f a = tt
+distinct (r ∷ rs) f a = (all-map (Apart r) (_≢_ r) (λ x h e. ⊎-elim (λ l. absurd (omega (arith, ap (λ (t : TpRange). t .start) e))) (λ l. absurd (omega (arith, ap (λ (t : TpRange). t .end) e))) h) rs (a .0), distinct rs (f .1) (a .1))
+
+pub set-is-order : SetIsOrder
+set-is-order p q g h s = same-elements (p .ranges) (q .ranges) (well p g) (well q h) (s .there) (s .back)
+  where
+    well : (x : State) → Good x → Pairwise _≢_ (x .ranges)
+    well x k = distinct (x .ranges) (all-map (Fine x) (λ r. r .start ≤ r .end) (λ r f. f .forth) (x .ranges) (k .each)) (k .apart)
+
+-- ---- the order
 
 -- a list that is whole has no other order
 whole-one : {rs qs : List TpRange} → Rearranged rs qs → whole rs ≡ true → rs ≡ qs

@@ -1,75 +1,29 @@
 -- What every run of the machine keeps: it is what its accepted segments make of it, one after the other. Assumes nothing.
-use Prim.Native.Nat.{ℕ, _+_, _≤_, _<_}
+use Prim.Native.Nat.{ℕ, _+_, _≤_, _<_, min, max}
 use mathlib.Core.Path.{_≡_, refl, sym, ap, subst, _∙_}
 use mathlib.Core.Bool.{Bool, true, false, _||_, not, cond, or-assoc, or-false}
 use mathlib.Core.List.{List, [], _∷_}
+use mathlib.Core.Logic.{_⊎_, inl, inr}
 use native.Mathlib.Omega.{arith}
-use borrow.Author.Tests.{ltb-false}
-use lib.Dec.{ltb}
+use borrow.Author.Tests.{leb-true, leb-false}
+use lib.Dec.{leb}
 use lib.ListN.{length, getD}
-use Rattle.numbers.specs.Refusals.{Refusal}
 use Rattle.numbers.specs.Answers.{accepted, refused, Verdict, pass, All}
-use Rattle.numbers.proofs.AnswerLaws.{not-refused}
 use Rattle.tp_machine.specs.declared.TpRange.{TpRange}
 use Rattle.tp_machine.specs.declared.TpEnd.{TpEnd}
 use Rattle.tp_machine.specs.declared.TpEnd.the-variants.{Unknown, Known}
-use Rattle.tp_machine.specs.Segments.{more, endOf, header, written}
+use Rattle.tp_machine.specs.Lists.{OneOf}
+use Rattle.tp_machine.specs.Segments.{offset, more, endOf, header, written}
 use Rattle.tp_machine.specs.Ranges.{any, hullOf}
-use Rattle.tp_machine.specs.Machine.{highest, State, fresh, taken, judged, Out, after, step, begin, opened, fed, clear}
+use Rattle.tp_machine.specs.Machine.{State, taken, judged, Out, step, begin, opened, fed}
 use Rattle.tp_machine.specs.Meaning.{rangeOf, Good, Accepted}
-use Rattle.tp_machine.specs.Runs.{begins, comes, clears, ifAccepted, admitted, covered, spans, brought, heads, final, Ended, Filled}
-use Rattle.tp_machine.specs.Theorems.{Stepped, EveryStep, BytesUnseen, NeverMalformed, EveryRun}
-use Rattle.tp_machine.proofs.Lists.{or-swap, newest, newest-none, newest-latest}
-use Rattle.tp_machine.proofs.Joining.{all-joined, joining-covers, atZero, joined-at-zero}
+use Rattle.tp_machine.specs.Runs.{Has, Made, Lies, ifAccepted, admitted, covered, spans, brought, heads, final, Ended, Filled}
+use Rattle.tp_machine.specs.Theorems.{EveryRun}
+use Rattle.tp_machine.proofs.Lists.{or-swap, all-map, each-one, newest, newest-none, newest-latest}
+use Rattle.tp_machine.proofs.Joining.{all-joined, new-lies, still-lies, joining-covers, atZero, joined-at-zero}
 use Rattle.tp_machine.proofs.Tests.{accepted-means, taken-good}
+use Rattle.tp_machine.proofs.Steps.{step-accepted, step-refused, begin-good}
 use Rattle.tp_machine.proofs.Writing.{written-length, written-head, written-at}
-
--- ---- one call
-pub every-step : EveryStep
-unfolding step after
-every-step p seg buf = go (judged p seg (length buf)) refl
-  where
-    go : (v : Verdict) → judged p seg (length buf) ≡ v → Stepped p seg buf (after v p seg buf)
-    go (accepted u) e = record { answer = sym e; accepts = λ _. (refl, refl); refuses = λ r q. not-refused r tt (sym q) }
-    go (refused r) e = record { answer = sym e; accepts = λ q. not-refused r tt q; refuses = λ _ _. (refl, refl) }
-
-pub bytes-unseen : BytesUnseen
-unfolding step after
-bytes-unseen p seg b c e = (every-step p seg b .answer ∙ ap (judged p seg) e ∙ sym (every-step p seg c .answer), rw e (go (judged p seg (length c))))
-  where
-    go : (v : Verdict) → after v p seg b .state ≡ after v p seg c .state
-    go (accepted u) = refl
-    go (refused r) = refl
-
--- ---- no malformed state is come to
-fresh-good : (limit : ℕ) → limit ≤ highest → Good (fresh limit)
-fresh-good limit h = record { few = omega arith; low = h; end-within = tt; each = tt; apart = tt }
-
-begin-low : (limit : ℕ) → begin limit .limit ≤ highest
-unfolding begin
-begin-low limit = go (ltb highest limit) refl
-  where
-    go : (t : Bool) → ltb highest limit ≡ t → begin limit .limit ≤ highest
-    go true e = rw e (omega arith)
-    go false e = rw e (omega (arith, ltb-false highest limit e))
-
-begin-good : (limit : ℕ) → Good (begin limit)
-unfolding begin
-begin-good limit = fresh-good (begin limit .limit) (begin-low limit)
-
-step-good : (p : State) (seg buf : List ℕ) → Good p → Good (step p seg buf .state)
-unfolding step after
-step-good p seg buf g = go (judged p seg (length buf)) refl
-  where
-    go : (v : Verdict) → judged p seg (length buf) ≡ v → Good (after v p seg buf .state)
-    go (accepted u) e = taken-good p seg (length buf) (accepted-means p seg (length buf) .0 e)
-    go (refused r) e = g
-
-pub never-malformed : NeverMalformed
-unfolding clear
-never-malformed p (begins limit) = begin-good limit
-never-malformed q (comes {p} r seg buf) = step-good p seg buf (never-malformed p r)
-never-malformed q (clears {p} r) = fresh-good (p .limit) (never-malformed p r .low)
 
 -- ---- what accepted segments make of a state and of a buffer
 unfoldable pub takenAll : State → List (List ℕ) → State
@@ -90,14 +44,6 @@ pub record Ran (o : Out) (ss : List (List ℕ)) : Type 0 where
   pub chain : Chain (o .state) (length (o .buffer)) (admitted o ss)
   pub state : fed o ss .state ≡ takenAll (o .state) (admitted o ss)
   pub buffer : fed o ss .buffer ≡ writtenAll (o .buffer) (admitted o ss)
-
-step-accepted : (p : State) (seg buf : List ℕ) (u : Unit {0}) → judged p seg (length buf) ≡ accepted u → step p seg buf ≡ record { answer = pass; state = taken p seg; buffer = written buf seg }
-unfolding step after
-step-accepted p seg buf u e = rw e
-
-step-refused : (p : State) (seg buf : List ℕ) (r : Refusal) → judged p seg (length buf) ≡ refused r → step p seg buf ≡ record { answer = refused r; state = p; buffer = buf }
-unfolding step after
-step-refused p seg buf r e = rw e
 
 pub ran : (o : Out) (ss : List (List ℕ)) → Ran o ss
 unfolding fed admitted takenAll writtenAll
@@ -172,6 +118,48 @@ pub chain-fits : (p : State) (room : ℕ) (ss : List (List ℕ)) → Chain p roo
 chain-fits p room [] h = tt
 chain-fits p room (s ∷ ss) h = ((h .0 .segment .long, h .0 .fits), chain-fits (taken p s) room ss (h .1))
 
+-- ---- each range is made by two of the segments, and each segment lies in a range
+module _ (place : List ℕ → ℕ) (segs : List (List ℕ)) (x y : ℕ) (a : Has place segs x) (b : Has place segs y) where
+  either : (z : ℕ) → (x ≡ z) ⊎ (y ≡ z) → Has place segs z
+  either z (inl e) = subst (Has place segs) e a
+  either z (inr e) = subst (Has place segs) e b
+
+  has-least : Has place segs (min x y)
+  has-least = either (min x y) (go (leb x y) refl)
+    where
+      go : (t : Bool) → leb x y ≡ t → (x ≡ min x y) ⊎ (y ≡ min x y)
+      go true p = inl (omega (arith, leb-true x y p))
+      go false p = inr (omega (arith, leb-false x y p))
+
+  has-greatest : Has place segs (max x y)
+  has-greatest = either (max x y) (go (leb x y) refl)
+    where
+      go : (t : Bool) → leb x y ≡ t → (x ≡ max x y) ⊎ (y ≡ max x y)
+      go true p = inr (omega (arith, leb-true x y p))
+      go false p = inl (omega (arith, leb-false x y p))
+
+hull-made : (segs : List (List ℕ)) (g r : TpRange) → Made segs g → Made segs r → Made segs (hullOf g r)
+unfolding hullOf
+hull-made segs g r a b = record {
+  begins-at = has-least offset segs (g .start) (r .start) (a .begins-at) (b .begins-at);
+  ends-at = has-greatest endOf segs (g .end) (r .end) (a .ends-at) (b .ends-at);
+}
+
+all-made : (segs : List (List ℕ)) (p : State) → p .ranges ≡ [] → All (Made segs) (takenAll p segs .ranges)
+all-made segs p e =
+    all-each (Made segs) (hull-made segs) p segs
+    (all-map (λ s. OneOf s segs) (λ s. Made segs (rangeOf s)) (λ s o. record { begins-at = record { segment = s; among = o; there = refl }; ends-at = record { segment = s; among = o; there = refl } }) segs (each-one segs)) (rw e tt)
+
+stays : (s : List ℕ) (p : State) (ss : List (List ℕ)) → Lies (p .ranges) s → Lies (takenAll p ss .ranges) s
+unfolding takenAll
+stays s p [] h = h
+stays s p (t ∷ ss) h = stays s (taken p t) ss (still-lies s (rangeOf t) (p .ranges) h)
+
+all-lie : (p : State) (ss : List (List ℕ)) → All (Lies (takenAll p ss .ranges)) ss
+unfolding takenAll
+all-lie p [] = tt
+all-lie p (s ∷ ss) = (stays s (taken p s) ss (new-lies s (p .ranges)), all-lie (taken p s) ss)
+
 -- ---- the newest bytes: place i of a buffer, of which a segment s gives it what it gives exactly when a test passes
 pub all-length : (b : List ℕ) (ss : List (List ℕ)) → All (Fits (length b)) ss → length (writtenAll b ss) ≡ length b
 unfolding writtenAll
@@ -217,6 +205,8 @@ every-run limit buf ss =
       good = rw (k .state) (chain-good (begin limit) (length buf) segs (k .chain) (begin-good limit));
       limit-stays = ap (λ (p : State). p .limit) (k .state) ∙ all-limit (begin limit) segs;
       covers = λ x. ap (λ (p : State). covered (p .ranges) x) (k .state) ∙ all-covers x (begin limit) segs ∙ or-false (any (spans x) segs);
+      made = rw (k .state) (all-made segs (begin limit) refl);
+      lie = rw (k .state) (all-lie (begin limit) segs);
       ended = rw (k .state) (ended (begin limit) segs refl);
       filled = rw (k .buffer) (filled buf segs (chain-fits (begin limit) (length buf) segs (k .chain)));
     }

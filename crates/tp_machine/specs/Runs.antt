@@ -7,11 +7,11 @@ use mathlib.Core.List.{List, [], _∷_, _++_}
 use lib.ListN.{length, getD}
 use lib.Dec.{leb, ltb, eqb}
 use Rattle.numbers.specs.Bytes.{be32}
-use Rattle.numbers.specs.Answers.{accepted, refused, Verdict}
+use Rattle.numbers.specs.Answers.{accepted, refused, Verdict, All}
 use Rattle.tp_machine.specs.declared.TpRange.{TpRange}
 use Rattle.tp_machine.specs.declared.TpEnd.{TpEnd}
 use Rattle.tp_machine.specs.declared.TpEnd.the-variants.{Unknown, Known}
-use Rattle.tp_machine.specs.Lists.{Rearranged, Latest}
+use Rattle.tp_machine.specs.Lists.{OneOf, Rearranged, Latest}
 use Rattle.tp_machine.specs.Segments.{offset, more, endOf, payload, header, pasted}
 use Rattle.tp_machine.specs.Ranges.{any}
 use Rattle.tp_machine.specs.Machine.{State, Out, step, begin, clear}
@@ -58,6 +58,23 @@ final s = not (more s)
 
 -- ---- what is left of the accepted segments, from a fresh state and a buffer b
 
+-- a range that they made: it begins where one of them begins, and ends where one ends
+pub record Has (place : List ℕ → ℕ) (segs : List (List ℕ)) (x : ℕ) : Type 0 where
+  pub segment : List ℕ
+  pub among : OneOf segment segs
+  pub there : place segment ≡ x
+
+pub record Made (segs : List (List ℕ)) (r : TpRange) : Type 0 where
+  pub begins-at : Has offset segs (r .start)
+  pub ends-at : Has endOf segs (r .end)
+
+-- a segment that lies in one of the ranges
+unfoldable pub around : List ℕ → TpRange → Bool
+around s r = leb (r .start) (offset s) && leb (endOf s) (r .end)
+
+abbrev pub Lies : List TpRange → List ℕ → Type 0
+Lies rs s = any (around s) rs ≡ true
+
 -- the end that is known
 pub record Ended (segs : List (List ℕ)) (e : TpEnd) : Type 0 where
   pub by : (s : List ℕ) → Latest final segs s → e ≡ Known (endOf s)
@@ -82,6 +99,11 @@ pub record Reported (segs : List (List ℕ)) (e : ℕ) (m : List ℕ) : Type 0 w
   pub newest : (x : ℕ) → x < e → (s : List ℕ) → Latest (spans x) segs s → getD bytes x 0 ≡ brought x s
 
 -- ---- the order of the ranges
+
+-- two lists of the same ranges, as sets
+pub record SameSet (rs qs : List TpRange) : Type 0 where
+  pub there : All (λ r. OneOf r qs) rs
+  pub back : All (λ r. OneOf r rs) qs
 
 -- two states that hold the same ranges
 pub record Same (p q : State) : Type 0 where

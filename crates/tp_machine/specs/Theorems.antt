@@ -7,7 +7,7 @@ use mathlib.Core.Logic.{_↔_}
 use lib.ListN.{length}
 use Rattle.numbers.specs.Bytes.{be32}
 use Rattle.numbers.specs.Refusals.{Refusal}
-use Rattle.numbers.specs.Answers.{accepted, refused, pass}
+use Rattle.numbers.specs.Answers.{accepted, refused, pass, All}
 use Rattle.tp_machine.specs.declared.TpRange.{TpRange}
 use Rattle.tp_machine.specs.Lists.{Rearranged}
 use Rattle.tp_machine.specs.Segments.{isSegment, header, pasted, written}
@@ -15,7 +15,7 @@ use Rattle.tp_machine.specs.Ranges.{any, joined}
 use Rattle.tp_machine.specs.Machine.{State, Out, badState, taken, judged, step, begin, opened, fed, clear}
 use Rattle.tp_machine.specs.Taking.{complete, taking}
 use Rattle.tp_machine.specs.Meaning.{Segment, HeaderOf, range, Good, Accepted, Complete}
-use Rattle.tp_machine.specs.Runs.{Reached, admitted, holds, covered, spans, Ended, Filled, Reported, Same, Alike}
+use Rattle.tp_machine.specs.Runs.{Reached, admitted, holds, covered, spans, Made, Lies, Ended, Filled, Reported, SameSet, Same, Alike}
 
 -- ---- the tests mean what document 01 says, both ways
 abbrev pub SegmentMeans : Type 0
@@ -62,6 +62,8 @@ pub record Run (limit : ℕ) (buf : List ℕ) (ss : List (List ℕ)) : Type 0 wh
   pub good : Good (fed (opened limit buf) ss .state)
   pub limit-stays : fed (opened limit buf) ss .state .limit ≡ begin limit .limit
   pub covers : (x : ℕ) → covered (fed (opened limit buf) ss .state .ranges) x ≡ any (spans x) (admitted (opened limit buf) ss)
+  pub made : All (Made (admitted (opened limit buf) ss)) (fed (opened limit buf) ss .state .ranges)
+  pub lie : All (Lies (fed (opened limit buf) ss .state .ranges)) (admitted (opened limit buf) ss)
   pub ended : Ended (admitted (opened limit buf) ss) (fed (opened limit buf) ss .state .end)
   pub filled : Filled buf (admitted (opened limit buf) ss) (fed (opened limit buf) ss .buffer)
 
@@ -79,7 +81,11 @@ pub record Given (o : Out) (segs : List (List ℕ)) : Type 0 where
 abbrev pub EveryReport : Type 0
 EveryReport = (limit : ℕ) (buf : List ℕ) (ss : List (List ℕ)) → complete (fed (opened limit buf) ss .state) ≡ true → Given (fed (opened limit buf) ss) (admitted (opened limit buf) ss)
 
--- ---- the order of the ranges is not seen by any call, in any state
+-- ---- the order of the ranges is not seen: well-formed states with the same set of ranges differ only in it
+abbrev pub SetIsOrder : Type 0
+SetIsOrder = (p q : State) → Good p → Good q → SameSet (p .ranges) (q .ranges) → Rearranged (p .ranges) (q .ranges)
+
+-- no call sees it, in any state
 pub record Unseen (p q : State) : Type 0 where
   pub malformed : badState p ≡ badState q
   pub step-alike : (seg buf : List ℕ) → Alike (step p seg buf) (step q seg buf)
