@@ -8,3 +8,4 @@ pub mod Steps
 pub mod Runs
 pub mod Report
 pub mod Order
+pub mod Theorems

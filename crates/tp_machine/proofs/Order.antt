@@ -58,7 +58,7 @@ module _ (limit : ℕ) (end : TpEnd) (rs qs : List TpRange) (r : Rearranged rs q
 
   bad-moved : badState p ≡ badState q
   unfolding p q badState badRange
-  bad-moved = rw (length-moved r, any-moved (λ x. ltb (x .end) (x .start) || ltb limit (x .end)) r, touch-moved r)
+  bad-moved = rw (length-moved r, any-moved (badRange p) r, touch-moved r)
 
   same-after : (seg : List ℕ) → Same (taken p seg) (taken q seg)
   unfolding p q

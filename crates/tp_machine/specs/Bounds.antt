@@ -11,9 +11,9 @@ use Rattle.tp_machine.specs.Machine.{fresh, Out, step, begun, begin, ope
 use Rattle.tp_machine.specs.Taking.{complete, taking}
 use Rattle.tp_machine.specs.Cases.{_more-at_, _final-at_}
 
--- a fresh stream of limit 2,048 over a buffer of nines, after segments
+-- a fresh stream of limit 2,112 over a buffer of nines, after segments
 abbrev pub after-all : List (List ℕ) → Out
-after-all ss = fed (opened 2048 (replicate 2064 9)) ss
+after-all ss = fed (opened 2112 (replicate 2128 9)) ss
 
 -- n segments of 16 bytes, of which no two touch
 abbrev pub scattered : ℕ → List (List ℕ)
@@ -41,7 +41,7 @@ pub record Bounds : Type 0 where
   pub gap : complete (after-all ((16 more-at 0) ∷ (16 final-at 32) ∷ []) .state) ≡ false
   pub malformed : taking (fresh 65521) (replicate 32 9) .answer ≡ refused malformed-state
   -- the newest bytes win: a segment's sevens stand where nines stood, and no byte behind them has changed
-  pub newest : drop 16 (after-all ((16 more-at 16) ∷ []) .buffer) ≡ replicate 16 9 ++ (replicate 16 7 ++ replicate 2016 9)
+  pub newest : drop 16 (after-all ((16 more-at 16) ∷ []) .buffer) ≡ replicate 16 9 ++ (replicate 16 7 ++ replicate 2080 9)
   -- the header comes with an offset of 0 only, without 0x20 in its type
   pub no-header : take 16 (after-all ((16 more-at 16) ∷ []) .buffer) ≡ replicate 16 9
   pub header : take 16 (after-all ((16 more-at 0) ∷ []) .buffer) ≡ 0x12 ∷ 0x34 ∷ 0x80 ∷ 0x01 ∷ 0 ∷ 0 ∷ 0 ∷ 28 ∷ 0 ∷ 0 ∷ 0 ∷ 1 ∷ 1 ∷ 1 ∷ 0x02 ∷ 0 ∷ []

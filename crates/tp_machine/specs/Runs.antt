@@ -17,7 +17,7 @@ use Rattle.tp_machine.specs.Ranges.{any}
 use Rattle.tp_machine.specs.Machine.{State, Out, step, begin, clear}
 use Rattle.tp_machine.specs.Meaning.{rangeOf}
 
--- the states that runs come to: a stream is begun, segments come over whatever buffer, it is cleared
+-- the states that runs come to: a stream is begun, segments come over whatever buffer, it is cleared (taking leaves the state as it was)
 pub data Reached : State → Type 0 where
   begins : (limit : ℕ) → Reached (begin limit)
   comes : {p : State} → Reached p → (seg buf : List ℕ) → Reached (step p seg buf .state)

@@ -1,4 +1,4 @@
--- What is shown of the machine: each a statement, whose proof of that name is in proofs/. Assumes nothing: these are definitions.
+-- What is shown of the machine: each a statement, and all of them together at the end. Assumes nothing: these are definitions.
 use Prim.Native.Nat.{ℕ, _+_}
 use mathlib.Core.Path.{_≡_}
 use mathlib.Core.Bool.{true, false, _||_}
@@ -98,3 +98,21 @@ OrderUnseen = (p q : State) → Same p q → Unseen p q
 
 abbrev pub RunsAlike : Type 0
 RunsAlike = (x y : Out) → Alike x y → (ss : List (List ℕ)) → Alike (fed x ss) (fed y ss)
+
+-- ---- all of them
+pub record Theorems : Type 0 where
+  pub segment-means : SegmentMeans
+  pub header-means : HeaderMeans
+  pub good-means : GoodMeans
+  pub accepted-means : AcceptedMeans
+  pub complete-means : CompleteMeans
+  pub every-step : EveryStep
+  pub bytes-unseen : BytesUnseen
+  pub joining-covers : JoiningCovers
+  pub joining-order-unseen : JoiningOrderUnseen
+  pub never-malformed : NeverMalformed
+  pub every-run : EveryRun
+  pub every-report : EveryReport
+  pub set-is-order : SetIsOrder
+  pub order-unseen : OrderUnseen
+  pub runs-alike : RunsAlike
