@@ -1,11 +1,10 @@
 -- The order of the ranges is not seen: states with the same ranges answer alike, and come to states with the same ranges. Assumes nothing.
 use Prim.Native.Nat.{ℕ, _≤_}
 use mathlib.Core.Path.{_≡_, refl, sym, ap, subst, _∙_}
-use mathlib.Core.Bool.{Bool, true, false, _||_, not, and-false}
+use mathlib.Core.Bool.{Bool, true, false, not, and-false}
 use mathlib.Core.List.{List, [], _∷_}
 use mathlib.Core.Logic.{⊎-elim, _≢_}
 use native.Mathlib.Omega.{arith}
-use lib.Dec.{ltb}
 use lib.ListN.{length}
 use Rattle.numbers.specs.Refusals.{malformed-state, not-complete}
 use Rattle.numbers.specs.Answers.{accepted, refused, Verdict, refuse_when_else_, All}

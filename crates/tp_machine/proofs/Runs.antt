@@ -14,10 +14,10 @@ use Rattle.tp_machine.specs.declared.TpEnd.{TpEnd}
 use Rattle.tp_machine.specs.declared.TpEnd.the-variants.{Unknown, Known}
 use Rattle.tp_machine.specs.Lists.{OneOf}
 use Rattle.tp_machine.specs.Segments.{offset, more, endOf, header, written}
-use Rattle.tp_machine.specs.Ranges.{any, hullOf}
-use Rattle.tp_machine.specs.Machine.{State, taken, judged, Out, step, begin, opened, fed}
+use Rattle.tp_machine.specs.Ranges.{any, hullOf, joined}
+use Rattle.tp_machine.specs.Machine.{State, taken, judged, Out, begin, opened, fed}
 use Rattle.tp_machine.specs.Meaning.{rangeOf, Good, Accepted}
-use Rattle.tp_machine.specs.Runs.{Has, Made, Lies, ifAccepted, admitted, covered, spans, brought, heads, final, Ended, Filled}
+use Rattle.tp_machine.specs.Runs.{Has, Made, Lies, ifAccepted, admitted, holds, covered, spans, brought, heads, final, Ended, Filled}
 use Rattle.tp_machine.specs.Theorems.{EveryRun}
 use Rattle.tp_machine.proofs.Lists.{or-swap, all-map, each-one, newest, newest-none, newest-latest}
 use Rattle.tp_machine.proofs.Joining.{all-joined, new-lies, still-lies, joining-covers, atZero, joined-at-zero}
@@ -39,51 +39,53 @@ abbrev pub Chain : State → ℕ → List (List ℕ) → Type 0
 Chain p room [] = Unit {0}
 Chain p room (s ∷ ss) = Accepted p s room × Chain (taken p s) room ss
 
+-- from state p and buffer b these segments, each accepted, lead to state q and buffer c
+pub record Leads (p : State) (b : List ℕ) (segs : List (List ℕ)) (q : State) (c : List ℕ) : Type 0 where
+  pub chain : Chain p (length b) segs
+  pub state : q ≡ takenAll p segs
+  pub buffer : c ≡ writtenAll b segs
+
 -- a run is what its accepted segments make of it
-pub record Ran (o : Out) (ss : List (List ℕ)) : Type 0 where
-  pub chain : Chain (o .state) (length (o .buffer)) (admitted o ss)
-  pub state : fed o ss .state ≡ takenAll (o .state) (admitted o ss)
-  pub buffer : fed o ss .buffer ≡ writtenAll (o .buffer) (admitted o ss)
+abbrev Ran : Out → List (List ℕ) → Type 0
+Ran o ss = Leads (o .state) (o .buffer) (admitted o ss) (fed o ss .state) (fed o ss .buffer)
+
+-- a segment came, the step left x, and from there the run goes on
+abbrev Goes : State → List ℕ → List ℕ → List (List ℕ) → Out → Type 0
+Goes p b s ss x = Leads p b (ifAccepted (x .answer) s (admitted x ss)) (fed x ss .state) (fed x ss .buffer)
+
+-- one more segment in front
+one-more : (p : State) (b s : List ℕ) (segs : List (List ℕ)) (q : State) (c : List ℕ) → Accepted p s (length b) → Leads (taken p s) (written b s) segs q c → Leads p b (s ∷ segs) q c
+unfolding takenAll writtenAll
+one-more p b s segs q c t k = record { chain = (t, rw (written-length b s (t .segment .long) (t .fits)) at (k .chain)); state = k .state; buffer = k .buffer }
 
 pub ran : (o : Out) (ss : List (List ℕ)) → Ran o ss
 unfolding fed admitted takenAll writtenAll
 ran o [] = record { chain = tt; state = refl; buffer = refl }
 ran o (s ∷ ss) = go (λ x. ran x ss) (judged (o .state) s (length (o .buffer))) refl
   where
-    -- one step leaves x, and from there the run goes on
-    from : (x : Out) → step (o .state) s (o .buffer) ≡ x → Chain (o .state) (length (o .buffer)) (ifAccepted (x .answer) s (admitted x ss))
-        → fed x ss .state ≡ takenAll (o .state) (ifAccepted (x .answer) s (admitted x ss)) → fed x ss .buffer ≡ writtenAll (o .buffer) (ifAccepted (x .answer) s (admitted x ss)) → Ran o (s ∷ ss)
-    from x q c a b = record {
-      chain = subst (λ (y : Out). Chain (o .state) (length (o .buffer)) (ifAccepted (y .answer) s (admitted y ss))) (sym q) c;
-      state = subst (λ (y : Out). fed y ss .state ≡ takenAll (o .state) (ifAccepted (y .answer) s (admitted y ss))) (sym q) a;
-      buffer = subst (λ (y : Out). fed y ss .buffer ≡ writtenAll (o .buffer) (ifAccepted (y .answer) s (admitted y ss))) (sym q) b;
-    }
-
     go : ((x : Out) → Ran x ss) → (v : Verdict) → judged (o .state) s (length (o .buffer)) ≡ v → Ran o (s ∷ ss)
     go later (accepted u) e =
-        let t = accepted-means (o .state) s (length (o .buffer)) .0 e in
         let x : Out = record { answer = pass; state = taken (o .state) s; buffer = written (o .buffer) s } in
-        let k = later x in
-        from x (step-accepted (o .state) s (o .buffer) u e) (t, rw (written-length (o .buffer) s (t .segment .long) (t .fits)) at (k .chain)) (k .state) (k .buffer)
+        let k = one-more (o .state) (o .buffer) s (admitted x ss) (fed x ss .state) (fed x ss .buffer) (accepted-means (o .state) s (length (o .buffer)) .0 e) (later x) in
+        subst (Goes (o .state) (o .buffer) s ss) (sym (step-accepted (o .state) s (o .buffer) u e)) k
     go later (refused r) e =
         let x : Out = record { answer = refused r; state = o .state; buffer = o .buffer } in
-        let k = later x in
-        from x (step-refused (o .state) s (o .buffer) r e) (k .chain) (k .state) (k .buffer)
+        subst (Goes (o .state) (o .buffer) s ss) (sym (step-refused (o .state) s (o .buffer) r e)) (later x)
 
--- ---- which places are covered, which range begins at 0, which end is known
+-- ---- which places are covered, whether a range begins at 0, which end is known
+module _ (f : TpRange → Bool) (one : (n : TpRange) (rs : List TpRange) → any f (joined n rs) ≡ (f n || any f rs)) where
+  any-taken : (p : State) (ss : List (List ℕ)) → any f (takenAll p ss .ranges) ≡ (any (λ s. f (rangeOf s)) ss || any f (p .ranges))
+  unfolding takenAll any
+  any-taken p [] = refl
+  any-taken p (s ∷ ss) =
+      any-taken (taken p s) ss ∙ ap (_||_ (any (λ t. f (rangeOf t)) ss)) (one (rangeOf s) (p .ranges))
+      ∙ or-swap (any (λ t. f (rangeOf t)) ss) (f (rangeOf s)) (any f (p .ranges)) ∙ sym (or-assoc (f (rangeOf s)) (any (λ t. f (rangeOf t)) ss) (any f (p .ranges)))
+
 pub all-covers : (x : ℕ) (p : State) (ss : List (List ℕ)) → covered (takenAll p ss .ranges) x ≡ (any (spans x) ss || covered (p .ranges) x)
-unfolding takenAll any
-all-covers x p [] = refl
-all-covers x p (s ∷ ss) =
-    all-covers x (taken p s) ss ∙ ap (_||_ (any (spans x) ss)) (joining-covers (rangeOf s) (p .ranges) x)
-    ∙ or-swap (any (spans x) ss) (spans x s) (covered (p .ranges) x) ∙ sym (or-assoc (spans x s) (any (spans x) ss) (covered (p .ranges) x))
+all-covers x = any-taken (holds x) (λ n rs. joining-covers n rs x)
 
 pub all-heads : (p : State) (ss : List (List ℕ)) → any atZero (takenAll p ss .ranges) ≡ (any heads ss || any atZero (p .ranges))
-unfolding takenAll any
-all-heads p [] = refl
-all-heads p (s ∷ ss) =
-    all-heads (taken p s) ss ∙ ap (_||_ (any heads ss)) (joined-at-zero (rangeOf s) (p .ranges))
-    ∙ or-swap (any heads ss) (heads s) (any atZero (p .ranges)) ∙ sym (or-assoc (heads s) (any heads ss) (any atZero (p .ranges)))
+all-heads = any-taken atZero joined-at-zero
 
 end-after : (m : Bool) (e k : TpEnd) → cond m e k ≡ cond (not m) k e
 end-after true e k = refl
