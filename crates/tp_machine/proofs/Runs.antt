@@ -19,7 +19,7 @@ use Rattle.tp_machine.specs.Machine.{State, taken, judged, Out, begin, o
 use Rattle.tp_machine.specs.Meaning.{rangeOf, Good, Accepted}
 use Rattle.tp_machine.specs.Runs.{Has, Made, Lies, ifAccepted, admitted, holds, covered, spans, brought, heads, final, Ended, Filled}
 use Rattle.tp_machine.specs.Theorems.{EveryRun}
-use Rattle.tp_machine.proofs.Lists.{or-swap, all-map, each-one, newest, newest-none, newest-latest}
+use Rattle.tp_machine.proofs.Lists.{or-swap, all-map, each-one, latest-of, newest, newest-none, newest-latest}
 use Rattle.tp_machine.proofs.Joining.{all-joined, new-lies, still-lies, joining-covers, atZero, joined-at-zero}
 use Rattle.tp_machine.proofs.Tests.{accepted-means, taken-good}
 use Rattle.tp_machine.proofs.Steps.{step-accepted, step-refused, begin-good}
@@ -203,12 +203,17 @@ unfolding begin any
 every-run limit buf ss =
     let k = ran (opened limit buf) ss in
     let segs : List (List ℕ) = admitted (opened limit buf) ss in
+    let covers : (x : ℕ) → covered (fed (opened limit buf) ss .state .ranges) x ≡ any (spans x) segs =
+    λ x. ap (λ (p : State). covered (p .ranges) x) (k .state) ∙ all-covers x (begin limit) segs ∙ or-false (any (spans x) segs) in
+    let fill : Filled buf segs (fed (opened limit buf) ss .buffer) = rw (k .buffer) (filled buf segs (chain-fits (begin limit) (length buf) segs (k .chain))) in
     record {
       good = rw (k .state) (chain-good (begin limit) (length buf) segs (k .chain) (begin-good limit));
       limit-stays = ap (λ (p : State). p .limit) (k .state) ∙ all-limit (begin limit) segs;
-      covers = λ x. ap (λ (p : State). covered (p .ranges) x) (k .state) ∙ all-covers x (begin limit) segs ∙ or-false (any (spans x) segs);
+      covers = covers;
       made = rw (k .state) (all-made segs (begin limit) refl);
       lie = rw (k .state) (all-lie (begin limit) segs);
       ended = rw (k .state) (ended (begin limit) segs refl);
-      filled = rw (k .buffer) (filled buf segs (chain-fits (begin limit) (length buf) segs (k .chain)));
+      filled = fill;
+      under = λ x h. let w = latest-of (spans x) segs (sym (covers x) ∙ h) in (w .0, w .1, fill .covers x (w .0) (w .1));
+      elsewhere = λ x h. fill .others x (sym (covers x) ∙ h);
     }

@@ -1,4 +1,5 @@
--- One call: what it leaves when it accepts and when it refuses, that it reads none of the buffer's bytes, and that no malformed state is come to.
+-- One call: what it leaves when it accepts and when it refuses, that it reads none of the buffer's bytes, on what the
+-- ranges after it depend, and that no malformed state is come to.
 -- Assumes nothing.
 use Prim.Native.Nat.{ℕ, _≤_}
 use mathlib.Core.Path.{_≡_, refl, sym, ap, _∙_}
@@ -13,9 +14,10 @@ use Rattle.numbers.specs.Answers.{accepted, refused, Verdict, pass}
 use Rattle.numbers.proofs.AnswerLaws.{not-refused}
 use Rattle.tp_machine.specs.Segments.{written}
 use Rattle.tp_machine.specs.Machine.{highest, State, fresh, taken, judged, after, step, begin, clear}
-use Rattle.tp_machine.specs.Meaning.{Good}
+use Rattle.tp_machine.specs.Meaning.{rangeOf, Good}
 use Rattle.tp_machine.specs.Runs.{begins, comes, clears}
-use Rattle.tp_machine.specs.Theorems.{Stepped, EveryStep, BytesUnseen, NeverMalformed}
+use Rattle.tp_machine.specs.Theorems.{Stepped, EveryStep, BytesUnseen, RangesDepend, NeverMalformed}
+use Rattle.tp_machine.proofs.Joining.{joining-order-unseen}
 use Rattle.tp_machine.proofs.Tests.{accepted-means, taken-good}
 
 -- ---- one call
@@ -34,6 +36,12 @@ bytes-unseen p seg b c e = (every-step p seg b .answer ∙ ap (judged p seg) e �
     go : (v : Verdict) → after v p seg b .state ≡ after v p seg c .state
     go (accepted u) = refl
     go (refused r) = refl
+
+pub ranges-depend : RangesDepend
+ranges-depend p q seg b c x y r =
+    let after-p : step p seg b .state ≡ taken p seg = every-step p seg b .accepts x .0 in
+    let after-q : step q seg c .state ≡ taken q seg = every-step q seg c .accepts y .0 in
+    rw (after-p, after-q) (joining-order-unseen (rangeOf seg) (p .ranges) (q .ranges) r)
 
 pub step-accepted : (p : State) (seg buf : List ℕ) (u : Unit {0}) → judged p seg (length buf) ≡ accepted u → step p seg buf ≡ record { answer = pass; state = taken p seg; buffer = written buf seg }
 unfolding step after

@@ -2,7 +2,7 @@
 use Rattle.tp_machine.specs.Theorems.{Theorems}
 use Rattle.tp_machine.proofs.Tests.{segment-means, good-means, accepted-means, complete-means}
 use Rattle.tp_machine.proofs.Writing.{header-means}
-use Rattle.tp_machine.proofs.Steps.{every-step, bytes-unseen, never-malformed}
+use Rattle.tp_machine.proofs.Steps.{every-step, bytes-unseen, ranges-depend, never-malformed}
 use Rattle.tp_machine.proofs.Joining.{joining-covers, joining-order-unseen}
 use Rattle.tp_machine.proofs.Runs.{every-run}
 use Rattle.tp_machine.proofs.Report.{every-report}
@@ -19,6 +19,7 @@ theorems = record {
   bytes-unseen = bytes-unseen;
   joining-covers = joining-covers;
   joining-order-unseen = joining-order-unseen;
+  ranges-depend = ranges-depend;
   never-malformed = never-malformed;
   every-run = every-run;
   every-report = every-report;

@@ -4,18 +4,18 @@ use mathlib.Core.Path.{_≡_}
 use mathlib.Core.Bool.{true, false, _||_}
 use mathlib.Core.List.{List, [], _∷_}
 use mathlib.Core.Logic.{_↔_}
-use lib.ListN.{length}
+use lib.ListN.{length, getD}
 use Rattle.numbers.specs.Bytes.{be32}
 use Rattle.numbers.specs.Refusals.{Refusal}
 use Rattle.numbers.specs.Answers.{accepted, refused, pass, All}
 use Rattle.tp_machine.specs.declared.TpRange.{TpRange}
-use Rattle.tp_machine.specs.Lists.{Rearranged}
+use Rattle.tp_machine.specs.Lists.{Rearranged, Latest}
 use Rattle.tp_machine.specs.Segments.{isSegment, header, pasted, written}
 use Rattle.tp_machine.specs.Ranges.{any, joined}
 use Rattle.tp_machine.specs.Machine.{State, Out, badState, taken, judged, step, begin, opened, fed, clear}
 use Rattle.tp_machine.specs.Taking.{complete, taking}
 use Rattle.tp_machine.specs.Meaning.{Segment, HeaderOf, range, Good, Accepted, Complete}
-use Rattle.tp_machine.specs.Runs.{Reached, admitted, holds, covered, spans, Made, Lies, Ended, Filled, Reported, SameSet, Same, Alike}
+use Rattle.tp_machine.specs.Runs.{Reached, admitted, holds, covered, spans, brought, Made, Lies, Ended, Filled, Reported, SameSet, Same, Alike}
 
 -- ---- the tests mean what document 01 says, both ways
 abbrev pub SegmentMeans : Type 0
@@ -53,6 +53,10 @@ JoiningCovers = (n : TpRange) (rs : List TpRange) (x : ℕ) → covered (joined 
 abbrev pub JoiningOrderUnseen : Type 0
 JoiningOrderUnseen = (n : TpRange) (rs qs : List TpRange) → Rearranged rs qs → Rearranged (joined n rs) (joined n qs)
 
+-- after an accepted segment that set depends on nothing else: neither on limit, end and order before, nor on the buffer
+abbrev pub RangesDepend : Type 0
+RangesDepend = (p q : State) (seg b c : List ℕ) → step p seg b .answer ≡ pass → step q seg c .answer ≡ pass → Rearranged (p .ranges) (q .ranges) → Rearranged (step p seg b .state .ranges) (step q seg c .state .ranges)
+
 -- ---- runs: no malformed state is come to, so that ranges stay apart and within the limit
 abbrev pub NeverMalformed : Type 0
 NeverMalformed = (p : State) → Reached p → Good p
@@ -66,6 +70,10 @@ pub record Run (limit : ℕ) (buf : List ℕ) (ss : List (List ℕ)) : Type 0 wh
   pub lie : All (Lies (fed (opened limit buf) ss .state .ranges)) (admitted (opened limit buf) ss)
   pub ended : Ended (admitted (opened limit buf) ss) (fed (opened limit buf) ss .state .end)
   pub filled : Filled buf (admitted (opened limit buf) ss) (fed (opened limit buf) ss .buffer)
+  -- under the ranges stands what the latest accepted segment that covers the place brought, elsewhere what was lent
+  pub under : (x : ℕ) → covered (fed (opened limit buf) ss .state .ranges) x ≡ true
+      → (s : List ℕ) × Latest (spans x) (admitted (opened limit buf) ss) s × (getD (fed (opened limit buf) ss .buffer) (16 + x) 0 ≡ brought x s)
+  pub elsewhere : (x : ℕ) → covered (fed (opened limit buf) ss .state .ranges) x ≡ false → getD (fed (opened limit buf) ss .buffer) (16 + x) 0 ≡ getD buf (16 + x) 0
 
 abbrev pub EveryRun : Type 0
 EveryRun = (limit : ℕ) (buf : List ℕ) (ss : List (List ℕ)) → Run limit buf ss
@@ -110,6 +118,7 @@ pub record Theorems : Type 0 where
   pub bytes-unseen : BytesUnseen
   pub joining-covers : JoiningCovers
   pub joining-order-unseen : JoiningOrderUnseen
+  pub ranges-depend : RangesDepend
   pub never-malformed : NeverMalformed
   pub every-run : EveryRun
   pub every-report : EveryReport
