@@ -3,16 +3,15 @@ use Prim.Native.Nat.{ℕ, _+_, _-_, _≤_, _<_}
 use mathlib.Core.Path.{_≡_, refl, sym, ap, _∙_}
 use mathlib.Core.Bool.{Bool, true, false, _&&_, cond}
 use mathlib.Core.List.{List, _++_}
-use mathlib.Core.Logic.{_⊎_, inl, inr, ⊎-elim}
+use mathlib.Core.Logic.{_⊎_, inl, inr}
 use native.Mathlib.Omega.{arith}
 use borrow.Author.Tests.{leb-true, leb-false, ltb-true, ltb-false}
 use lib.Dec.{leb, ltb}
 use lib.ListN.{length, take, drop, getD, length-append, length-take, length-drop, length-set, List·getD-append}
 use lib.Seq.{length-take-le, getD-append-add, getD-take, getD-drop, getD-set-same, getD-set-other, take-add, ext-getD}
 use Rattle.tp_machine.specs.declared.TpRange.{TpRange}
-use Rattle.tp_machine.specs.Lists.{OneOf}
 use Rattle.tp_machine.specs.Segments.{offset, endOf, payload, withoutTp, header, pasted, written}
-use Rattle.tp_machine.specs.Meaning.{types, rangeOf}
+use Rattle.tp_machine.specs.Meaning.{Cleared, rangeOf}
 use Rattle.tp_machine.specs.Runs.{holds, spans, brought, heads}
 use Rattle.tp_machine.specs.Theorems.{HeaderMeans}
 use Rattle.tp_machine.proofs.Joining.{held}
@@ -78,23 +77,22 @@ module _ (d : List ℕ) (at : ℕ) (s : List ℕ) (n : ℕ) (inner : at + length
   take-more-pasted e = take-add n e (pasted d at s) ∙ rw (take-pasted, drop-pasted)
 
 -- ---- a segment's bytes in the buffer
-pub header-length : (s : List ℕ) → 20 ≤ length s → length (header s) ≡ 16
-unfolding header
-header-length s h = simp (length-set, length-take) (omega arith)
-
-without-tp : (t : ℕ) → OneOf t types → withoutTp t + 0x20 ≡ t
+without-tp : (t : ℕ) → Cleared t (withoutTp t)
 unfolding withoutTp
-without-tp t h = ⊎-elim (λ p. rw p) (⊎-elim (λ p. rw p) (⊎-elim (λ p. rw p) (⊎-elim (λ p. rw p) (⊎-elim (λ p. rw p) (λ z. absurd z))))) h
+without-tp t = ((λ e. omega arith), (λ e. omega arith))
 
 pub header-means : HeaderMeans
 unfolding header
-header-means s g =
-    let n : length (take 16 s) ≡ 16 = length-take-le 16 s (omega (arith, g .long)) in
+header-means s long =
+    let n : length (take 16 s) ≡ 16 = length-take-le 16 s (omega arith) in
     record {
-      size = header-length s (g .long);
-      type = ap (λ (t : ℕ). t + 0x20) (getD-set-same (take 16 s) 14 (withoutTp (getD s 14 0)) 0 (omega arith)) ∙ without-tp (getD s 14 0) (g .type);
+      size = length-set (take 16 s) 14 (withoutTp (getD s 14 0)) ∙ n;
+      type = rw (getD-set-same (take 16 s) 14 (withoutTp (getD s 14 0)) 0 (omega arith)) (without-tp (getD s 14 0));
       others = λ i h ne. getD-set-other (take 16 s) 14 i (withoutTp (getD s 14 0)) 0 ne ∙ getD-take 16 s i 0 h;
     }
+
+pub header-length : (s : List ℕ) → 20 ≤ length s → length (header s) ≡ 16
+header-length s long = header-means s long .size
 
 missed : (x : ℕ) (r : TpRange) → holds x r ≡ false → (x < r .start) ⊎ (r .end ≤ x)
 unfolding holds

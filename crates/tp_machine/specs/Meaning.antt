@@ -1,6 +1,6 @@
 -- Document 01's conditions of joining in plain words: what the machine's tests are shown to mean.
 -- Assumes nothing: these are definitions.
-use Prim.Native.Nat.{ℕ, _+_, _%_, _≤_, _<_}
+use Prim.Native.Nat.{ℕ, _+_, _/_, _%_, _≤_, _<_}
 use mathlib.Core.Path.{_≡_}
 use mathlib.Core.Bool.{Bool, true, false}
 use mathlib.Core.List.{List, [], _∷_}
@@ -28,10 +28,14 @@ pub record Segment (s : List ℕ) : Type 0 where
   pub version : getD s 12 0 ≡ 1
   pub type : OneOf (getD s 14 0) types
 
--- the header h that a segment brings: its 16 header bytes, with 0x20 cleared in byte 14 (each of the types has it)
+-- u is t with 0x20 cleared
+abbrev pub Cleared : (t u : ℕ) → Type 0
+Cleared t u = (t / 0x20 % 2 ≡ 1 → u + 0x20 ≡ t) × (t / 0x20 % 2 ≡ 0 → u ≡ t)
+
+-- the header h that a segment brings: its 16 header bytes, with 0x20 cleared in byte 14
 pub record HeaderOf (s h : List ℕ) : Type 0 where
   pub size : length h ≡ 16
-  pub type : getD h 14 0 + 0x20 ≡ getD s 14 0
+  pub type : Cleared (getD s 14 0) (getD h 14 0)
   pub others : (i : ℕ) → i < 16 → i ≢ 14 → getD h i 0 ≡ getD s i 0
 
 -- a range, and the one that a segment spans

@@ -1,5 +1,5 @@
 -- What is shown of the machine: each a statement, and all of them together at the end. Assumes nothing: these are definitions.
-use Prim.Native.Nat.{ℕ, _+_}
+use Prim.Native.Nat.{ℕ, _+_, _≤_}
 use mathlib.Core.Path.{_≡_}
 use mathlib.Core.Bool.{true, false, _||_}
 use mathlib.Core.List.{List, [], _∷_}
@@ -22,7 +22,7 @@ abbrev pub SegmentMeans : Type 0
 SegmentMeans = (s : List ℕ) → (isSegment s ≡ true) ↔ Segment s
 
 abbrev pub HeaderMeans : Type 0
-HeaderMeans = (s : List ℕ) → Segment s → HeaderOf s (header s)
+HeaderMeans = (s : List ℕ) → 20 ≤ length s → HeaderOf s (header s)
 
 abbrev pub GoodMeans : Type 0
 GoodMeans = (p : State) → (badState p ≡ false) ↔ Good p
