@@ -1,8 +1,8 @@
 -- The machine's tests mean what document 01 says in plain words, both ways; and an accepted segment leaves no malformed state.
 -- Assumes nothing.
 use Prim.Native.Nat.{ℕ, _+_, _-_, _%_, _≤_}
-use mathlib.Core.Path.{_≡_, refl, ap, _∙_}
-use mathlib.Core.Bool.{Bool, true, false, not, cond, false≢true}
+use mathlib.Core.Path.{_≡_, refl, sym, ap, _∙_}
+use mathlib.Core.Bool.{Bool, true, false, not, cond, or-false, or-true, false≢true}
 use mathlib.Core.List.{List, [], _∷_}
 use mathlib.Core.Logic.{_⊎_, inl, inr, ⊎-elim, _↔_}
 use native.Mathlib.Omega.{arith}
@@ -26,13 +26,20 @@ use Rattle.tp_machine.proofs.Lists.{or-inv, or-cases, neither, and-inv,
 use Rattle.tp_machine.proofs.Joining.{all-joined, all-apart, joined-apart}
 
 -- ---- 30
-type-means : (t : ℕ) → (tpType t ≡ true) ↔ OneOf t types
-unfolding tpType
-type-means t = (
-  (λ e. ⊎-elim (λ p. inl (eqb-true t 0x20 p)) (λ f. inr (⊎-elim (λ p. inl (eqb-true t 0x21 p)) (λ g. inr (⊎-elim (λ p. inl (eqb-true t 0x22 p))
-      (λ h. inr (⊎-elim (λ p. inl (eqb-true t 0xa0 p)) (λ p. inr (inl (eqb-true t 0xa1 p))) (or-cases (eqb t 0xa0) _ h))) (or-cases (eqb t 0x22) _ g))) (or-cases (eqb t 0x21) _ f))) (or-cases (eqb t 0x20) _ e)),
-  (λ h. ⊎-elim (λ p. rw p) (⊎-elim (λ p. rw p) (⊎-elim (λ p. rw p) (⊎-elim (λ p. rw p) (⊎-elim (λ p. rw p) (λ z. absurd z))))) h),
+one-of-means : (x : ℕ) (ys : List ℕ) → (any (eqb x) ys ≡ true) ↔ OneOf x ys
+unfolding any
+one-of-means x [] = ((λ e. false≢true e), (λ o. absurd o))
+one-of-means x (y ∷ ys) = (
+  (λ e. ⊎-elim (λ p. inl (eqb-true x y p)) (λ p. inr (one-of-means x ys .0 p)) (or-cases (eqb x y) (any (eqb x) ys) e)),
+  (λ o. ⊎-elim (λ p. rw (eq-eqb x y p)) (λ p. rw (one-of-means x ys .1 p) (or-true (eqb x y))) o),
 )
+
+type-test : (t : ℕ) → tpType t ≡ any (eqb t) types
+unfolding tpType any
+type-test t = rw (or-false (eqb t 0xa1))
+
+type-means : (t : ℕ) → (tpType t ≡ true) ↔ OneOf t types
+type-means t = ((λ e. one-of-means t types .0 (sym (type-test t) ∙ e)), (λ o. type-test t ∙ one-of-means t types .1 o))
 
 pub segment-means : SegmentMeans
 unfolding isSegment
