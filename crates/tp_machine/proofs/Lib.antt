@@ -1,1 +1,11 @@
 pub mod Cases
+pub mod Bounds
+pub mod Lists
+pub mod Joining
+pub mod Tests
+pub mod Writing
+pub mod Steps
+pub mod Runs
+pub mod Report
+pub mod Order
+pub mod Theorems

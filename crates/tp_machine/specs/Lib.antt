@@ -3,3 +3,8 @@ pub mod Ranges
 pub mod Machine
 pub mod Taking
 pub mod Cases
+pub mod Bounds
+pub mod Lists
+pub mod Meaning
+pub mod Runs
+pub mod Theorems

@@ -1,0 +1,301 @@
+-- What joining keeps: a property of each range, that none touch, which places are covered, and that the order of the ranges is not seen.
+-- Assumes nothing.
+use Prim.Native.Nat.{ℕ, _≤_, _<_}
+use mathlib.Core.Path.{_≡_, refl, sym, ap, ap₂, _∙_}
+use mathlib.Core.Bool.{Bool, true, false, _&&_, _||_, and-comm, or-assoc, or-true, true≢false, false≢true}
+use mathlib.Core.List.{List, [], _∷_, _++_}
+use mathlib.Core.Logic.{_⊎_, inl, inr, ⊎-elim, _↔_}
+use native.Mathlib.Nat.{le-refl}
+use native.Mathlib.Omega.{arith}
+use borrow.Author.Tests.{leb-true, leb-false, le-leb, lt-leb, ltb-true, ltb-false, lt-ltb, eqb-true, eq-eqb}
+use lib.Dec.{leb, ltb, eqb}
+use Rattle.numbers.specs.Answers.{All}
+use Rattle.tp_machine.specs.declared.TpRange.{TpRange}
+use Rattle.tp_machine.specs.Lists.{Pairwise, Rearranged, nothing, first, swap, next}
+use Rattle.tp_machine.specs.Segments.{offset, endOf}
+use Rattle.tp_machine.specs.Ranges.{any, touch, hullOf, unless, keep, growIf, grow, joined, someTouch}
+use Rattle.tp_machine.specs.Meaning.{range, rangeOf, Apart}
+use Rattle.tp_machine.specs.Runs.{around, Lies, holds}
+use Rattle.tp_machine.specs.Theorems.{JoiningCovers, JoiningOrderUnseen}
+use Rattle.tp_machine.proofs.Lists.{or-inv, or-cases, neither, or-swap, and-inv, same-test, all-append, all-map, all-both, any-all, all-any, any-append, any-moved, unmoved, append-moved}
+
+-- ---- a property of each range
+module _ (P : TpRange → Type 0) where
+  all-unless : (b : Bool) (x : TpRange) (xs : List TpRange) → (b ≡ false → P x) → All P xs → All P (unless b x xs)
+  all-unless true x xs p e = e
+  all-unless false x xs p e = (p refl, e)
+
+  all-keep : (n : TpRange) (xs : List TpRange) → All P xs → All P (keep n xs)
+  unfolding keep
+  all-keep n [] e = tt
+  all-keep n (x ∷ xs) e = all-unless (touch n x) x (keep n xs) (λ _. e .0) (all-keep n xs (e .1))
+
+  -- what the hull with a touched range keeps, growing keeps
+  all-grow : (Q : TpRange → Type 0) (n : TpRange) → ((g r : TpRange) → touch n r ≡ true → P g → Q r → P (hullOf g r)) → (g : TpRange) (rs : List TpRange) → P g → All Q rs → P (grow n g rs)
+  unfolding grow
+  all-grow Q n f g [] p e = p
+  all-grow Q n f g (r ∷ rs) p e = all-grow Q n f (growIf (touch n r) g r) rs (one (touch n r) refl) (e .1)
+    where
+      one : (t : Bool) → touch n r ≡ t → P (growIf t g r)
+      one true m = f g r m p (e .0)
+      one false m = p
+
+  pub all-joined : (n : TpRange) → ((g r : TpRange) → P g → P r → P (hullOf g r)) → (rs : List TpRange) → P n → All P rs → All P (joined n rs)
+  unfolding joined
+  all-joined n f rs p e = all-append P (keep n rs) (grow n n rs) (all-keep n rs e) (all-grow P n (λ g r _. f g r) n rs p e)
+
+-- ---- touching
+pub apart : (a b : TpRange) → touch a b ≡ false → Apart a b
+unfolding touch
+apart a b e = go (leb (a .start) (b .end)) refl e
+  where
+    go : (t : Bool) → leb (a .start) (b .end) ≡ t → (t && leb (b .start) (a .end)) ≡ false → Apart a b
+    go true p q = inl (leb-false _ _ q)
+    go false p q = inr (leb-false _ _ p)
+
+pub meets : (a b : TpRange) → touch a b ≡ true → (a .start ≤ b .end) × (b .start ≤ a .end)
+unfolding touch
+meets a b e = let o = and-inv (leb (a .start) (b .end)) (leb (b .start) (a .end)) e in (leb-true _ _ (o .0), leb-true _ _ (o .1))
+
+apart-left : (a b : TpRange) → b .end < a .start → touch a b ≡ false
+unfolding touch
+apart-left a b h = rw (lt-leb (a .start) (b .end) h)
+
+touch-sym : (a b : TpRange) → touch a b ≡ touch b a
+unfolding touch
+touch-sym a b = and-comm (leb (a .start) (b .end)) (leb (b .start) (a .end))
+
+untouched : (a b : TpRange) → Apart a b → touch a b ≡ false
+untouched a b h = ⊎-elim (λ p. touch-sym a b ∙ apart-left b a p) (λ p. apart-left a b p) h
+
+-- none of a list touch exactly when each two are apart
+pub all-apart : (rs : List TpRange) → (someTouch rs ≡ false) ↔ Pairwise Apart rs
+unfolding someTouch
+all-apart [] = ((λ e. tt), (λ h. refl))
+all-apart (r ∷ rs) = (
+  (λ e. let o = or-inv (any (touch r) rs) (someTouch rs) e in (all-map (λ x. touch r x ≡ false) (Apart r) (apart r) rs (any-all (touch r) rs (o .0)), all-apart rs .0 (o .1))),
+  (λ h. neither _ _ (all-any (touch r) rs (all-map (Apart r) (λ x. touch r x ≡ false) (untouched r) rs (h .0))) (all-apart rs .1 (h .1))),
+)
+
+-- ---- none touch after joining
+
+-- g holds all of n
+abbrev Around : TpRange → TpRange → Type 0
+Around n g = (g .start ≤ n .start) × (n .end ≤ g .end)
+
+around-hull : (n g r : TpRange) → Around n g → Around n (hullOf g r)
+unfolding hullOf
+around-hull n g r a = (omega arith, omega arith)
+
+-- a range that is apart from two that meet is apart from their hull
+hull-apart : (x g r n : TpRange) → x .start ≤ x .end → Around n g → touch n r ≡ true → touch x g ≡ false → touch x r ≡ false → touch x (hullOf g r) ≡ false
+unfolding hullOf
+hull-apart x g r n w o m a b =
+    let h : (n .start ≤ r .end) × (r .start ≤ n .end) = meets n r m in
+    untouched x (hullOf g r) (⊎-elim
+    (λ p. ⊎-elim (λ q. inl (omega arith)) (λ q. absurd (omega arith)) (apart x r b))
+    (λ p. ⊎-elim (λ q. absurd (omega arith)) (λ q. inr (omega arith)) (apart x r b))
+    (apart x g a))
+
+-- those of rs that n touches are apart from x
+abbrev Away : TpRange → TpRange → TpRange → Type 0
+Away n x r = touch n r ≡ true → touch x r ≡ false
+
+grow-apart : (x n : TpRange) (rs : List TpRange) → x .start ≤ x .end → touch x n ≡ false → All (Away n x) rs → touch x (grow n n rs) ≡ false
+grow-apart x n rs w a e =
+    all-grow (λ g. (touch x g ≡ false) × Around n g) (Away n x) n (λ g r m p q. (hull-apart x g r n w (p .1) m (p .0) (q m), around-hull n g r (p .1))) n rs
+    (a, (le-refl (n .start), le-refl (n .end))) e .0
+
+-- each that is kept is apart from n, and from those that n touches
+keep-away : (n : TpRange) (rs : List TpRange) → someTouch rs ≡ false → All (λ x. (touch x n ≡ false) × All (Away n x) rs) (keep n rs)
+unfolding keep someTouch
+keep-away n [] e = tt
+keep-away n (r ∷ rs) e =
+    let h = or-inv (any (touch r) rs) (someTouch rs) e in
+    let others : All (λ x. touch r x ≡ false) rs = any-all (touch r) rs (h .0) in
+    all-unless (λ x. (touch x n ≡ false) × All (Away n x) (r ∷ rs)) (touch n r) r (keep n rs)
+    (λ m. (touch-sym r n ∙ m, (λ t. absurd (true≢false (sym t ∙ m)), all-map (λ x. touch r x ≡ false) (Away n r) (λ x p _. p) rs others)))
+    (all-map (λ x. ((touch x n ≡ false) × All (Away n x) rs) × (touch r x ≡ false)) (λ x. (touch x n ≡ false) × All (Away n x) (r ∷ rs))
+    (λ x p. (p .0 .0, (λ _. touch-sym x r ∙ p .1, p .0 .1))) (keep n rs)
+    (all-both (λ x. (touch x n ≡ false) × All (Away n x) rs) (λ x. touch r x ≡ false) (keep n rs) (keep-away n rs (h .1)) (all-keep (λ x. touch r x ≡ false) n rs others)))
+
+-- what is kept does not touch, nor does what is put behind it
+keep-apart : (n : TpRange) (rs : List TpRange) → someTouch rs ≡ false → someTouch (keep n rs) ≡ false
+unfolding keep someTouch
+keep-apart n [] e = refl
+keep-apart n (r ∷ rs) e =
+    let h = or-inv (any (touch r) rs) (someTouch rs) e in
+    go (touch n r) (all-any (touch r) (keep n rs) (all-keep (λ x. touch r x ≡ false) n rs (any-all (touch r) rs (h .0)))) (keep-apart n rs (h .1))
+  where
+    go : (b : Bool) → any (touch r) (keep n rs) ≡ false → someTouch (keep n rs) ≡ false → someTouch (unless b r (keep n rs)) ≡ false
+    go true p q = q
+    go false p q = neither _ _ p q
+
+behind-apart : (xs : List TpRange) (g : TpRange) → someTouch xs ≡ false → All (λ x. touch x g ≡ false) xs → someTouch (xs ++ (g ∷ [])) ≡ false
+unfolding someTouch any
+behind-apart [] g e a = refl
+behind-apart (x ∷ xs) g e a =
+    let h = or-inv (any (touch x) xs) (someTouch xs) e in
+    neither _ _ (any-append (touch x) xs g ∙ neither _ _ (a .0) (h .0)) (behind-apart xs g (h .1) (a .1))
+
+pub joined-apart : (n : TpRange) (rs : List TpRange) → someTouch rs ≡ false → All (λ r. r .start ≤ r .end) rs → someTouch (joined n rs) ≡ false
+unfolding joined
+joined-apart n rs e w =
+    behind-apart (keep n rs) (grow n n rs) (keep-apart n rs e)
+    (all-map (λ x. ((touch x n ≡ false) × All (Away n x) rs) × (x .start ≤ x .end)) (λ x. touch x (grow n n rs) ≡ false)
+    (λ x q. grow-apart x n rs (q .1) (q .0 .0) (q .0 .1)) (keep n rs)
+    (all-both (λ x. (touch x n ≡ false) × All (Away n x) rs) (λ x. x .start ≤ x .end) (keep n rs) (keep-away n rs e) (all-keep (λ x. x .start ≤ x .end) n rs w)))
+
+-- ---- a test that a hull passes exactly when one of the two passes it: one of the joined ranges passes exactly when the new one or an old one does
+module _ (f : TpRange → Bool) (n : TpRange) (hull : (g r : TpRange) → Around n g → touch n r ≡ true → f (hullOf g r) ≡ (f g || f r)) where
+  grow-any : (g : TpRange) (rs : List TpRange) → Around n g → (f (grow n g rs) || any f (keep n rs)) ≡ (f g || any f rs)
+  unfolding keep grow any
+  grow-any g [] a = refl
+  grow-any g (r ∷ rs) a = go (λ h. grow-any h rs) (touch n r) refl
+    where
+      go : ((h : TpRange) → Around n h → (f (grow n h rs) || any f (keep n rs)) ≡ (f h || any f rs)) → (t : Bool) → touch n r ≡ t → (f (grow n (growIf t g r) rs) || any f (unless t r (keep n rs))) ≡ (f g || (f r || any f rs))
+      go e true m = e (hullOf g r) (around-hull n g r a) ∙ ap (λ (b : Bool). b || any f rs) (hull g r a m) ∙ or-assoc (f g) (f r) (any f rs)
+      go e false m = or-swap (f (grow n g rs)) (f r) (any f (keep n rs)) ∙ ap (_||_ (f r)) (e g a) ∙ or-swap (f r) (f g) (any f rs)
+
+  joined-any : (rs : List TpRange) → any f (joined n rs) ≡ (f n || any f rs)
+  unfolding joined
+  joined-any rs = any-append f (keep n rs) (grow n n rs) ∙ grow-any n rs (le-refl (n .start), le-refl (n .end))
+
+-- ---- a test that a hull passes where one of the two does: it stays passed
+module _ (f : TpRange → Bool) (n : TpRange) (hull : (g r : TpRange) → (f g ≡ true) ⊎ (f r ≡ true) → f (hullOf g r) ≡ true) where
+  grow-some : (g : TpRange) (rs : List TpRange) → (f g ≡ true) ⊎ (any f rs ≡ true) → (f (grow n g rs) || any f (keep n rs)) ≡ true
+  unfolding keep grow any
+  grow-some g [] (inl e) = rw e
+  grow-some g [] (inr e) = absurd (false≢true e)
+  grow-some g (r ∷ rs) o = go (λ h. grow-some h rs) (touch n r) o
+    where
+      go : ((h : TpRange) → (f h ≡ true) ⊎ (any f rs ≡ true) → (f (grow n h rs) || any f (keep n rs)) ≡ true) → (t : Bool) → (f g ≡ true) ⊎ ((f r || any f rs) ≡ true) → (f (grow n (growIf t g r) rs) || any f (unless t r (keep n rs))) ≡ true
+      go later true q =
+          later (hullOf g r) (⊎-elim (λ e. inl (hull g r (inl e))) (λ e. ⊎-elim (λ k. inl (hull g r (inr k))) (λ k. inr k) (or-cases (f r) (any f rs) e)) q)
+      go later false q =
+          or-swap (f (grow n g rs)) (f r) (any f (keep n rs))
+          ∙ ⊎-elim (λ e. rw (later g (inl e)) (or-true (f r))) (λ e. ⊎-elim (λ k. rw k) (λ k. rw (later g (inr k)) (or-true (f r))) (or-cases (f r) (any f rs) e)) q
+
+  joined-some : (rs : List TpRange) → (f n ≡ true) ⊎ (any f rs ≡ true) → any f (joined n rs) ≡ true
+  unfolding joined
+  joined-some rs o = any-append f (keep n rs) (grow n n rs) ∙ grow-some n rs o
+
+lies-around : (s : List ℕ) (r : TpRange) → around s r ≡ true → Around (rangeOf s) r
+unfolding around
+lies-around s r e = let o = and-inv (leb (r .start) (offset s)) (leb (endOf s) (r .end)) e in (leb-true (r .start) (offset s) (o .0), leb-true (endOf s) (r .end) (o .1))
+
+is-around : (s : List ℕ) (r : TpRange) → Around (rangeOf s) r → around s r ≡ true
+unfolding around
+is-around s r a = rw (le-leb (r .start) (offset s) (a .0), le-leb (endOf s) (r .end) (a .1))
+
+hull-lies : (s : List ℕ) (g r : TpRange) → (around s g ≡ true) ⊎ (around s r ≡ true) → around s (hullOf g r) ≡ true
+unfolding hullOf
+hull-lies s g r (inl e) = let a = lies-around s g e in is-around s (hullOf g r) (omega arith, omega arith)
+hull-lies s g r (inr e) = let a = lies-around s r e in is-around s (hullOf g r) (omega arith, omega arith)
+
+-- a segment lies in one of the joined ranges if its range has come, or if it lay in one before
+pub new-lies : (s : List ℕ) (rs : List TpRange) → Lies (joined (rangeOf s) rs) s
+new-lies s rs = joined-some (around s) (rangeOf s) (hull-lies s) rs (inl (is-around s (rangeOf s) (le-refl (offset s), le-refl (endOf s))))
+
+pub still-lies : (s : List ℕ) (n : TpRange) (rs : List TpRange) → Lies rs s → Lies (joined n rs) s
+still-lies s n rs h = joined-some (around s) n (hull-lies s) rs (inr h)
+
+-- ---- the places that are covered
+pub held : (x : ℕ) (r : TpRange) → holds x r ≡ true → (r .start ≤ x) × (x < r .end)
+unfolding holds
+held x r e = let o = and-inv (leb (r .start) x) (ltb x (r .end)) e in (leb-true (r .start) x (o .0), ltb-true x (r .end) (o .1))
+
+pub is-held : (x : ℕ) (r : TpRange) → r .start ≤ x → x < r .end → holds x r ≡ true
+unfolding holds
+is-held x r p q = rw (le-leb (r .start) x p, lt-ltb x (r .end) q)
+
+-- the hull of two that meet covers what they cover
+hull-covers : (x : ℕ) (n g r : TpRange) → Around n g → touch n r ≡ true → holds x (hullOf g r) ≡ (holds x g || holds x r)
+unfolding hullOf
+hull-covers x n g r a m =
+    let h : (n .start ≤ r .end) × (r .start ≤ n .end) = meets n r m in
+    same-test (holds x (hullOf g r)) (holds x g || holds x r) (λ e. there (held x (hullOf g r) e))
+    (λ e. ⊎-elim (λ q. let k = held x g q in is-held x (hullOf g r) (omega arith) (omega arith)) (λ q. let k = held x r q in is-held x (hullOf g r) (omega arith) (omega arith)) (or-cases (holds x g) (holds x r) e))
+  where
+    there : (hullOf g r .start ≤ x) × (x < hullOf g r .end) → (holds x g || holds x r) ≡ true
+    there k = go (leb (g .start) x) refl (ltb x (g .end)) refl
+      where
+        in-r : r .start ≤ x → x < r .end → (holds x g || holds x r) ≡ true
+        in-r p q = rw (is-held x r p q) (or-true (holds x g))
+
+        go : (s : Bool) → leb (g .start) x ≡ s → (t : Bool) → ltb x (g .end) ≡ t → (holds x g || holds x r) ≡ true
+        go true p true q = rw (is-held x g (leb-true _ _ p) (ltb-true _ _ q))
+        go true p false q = let h = meets n r m in in-r (omega (arith, ltb-false x (g .end) q)) (omega (arith, ltb-false x (g .end) q))
+        go false p t q = let h = meets n r m in in-r (omega (arith, leb-false (g .start) x p)) (omega (arith, leb-false (g .start) x p))
+
+pub joining-covers : JoiningCovers
+joining-covers n rs x = joined-any (holds x) n (hull-covers x n) rs
+
+-- ---- a range that begins at 0
+abbrev pub atZero : TpRange → Bool
+atZero r = eqb (r .start) 0
+
+hull-at-zero : (g r : TpRange) → atZero (hullOf g r) ≡ (atZero g || atZero r)
+unfolding hullOf
+hull-at-zero g r =
+    same-test (atZero (hullOf g r)) (atZero g || atZero r) (λ e. there (eqb-true (hullOf g r .start) 0 e) (leb (g .start) (r .start)) refl)
+    (λ e. eq-eqb (hullOf g r .start) 0 (⊎-elim (λ p. omega (arith, eqb-true (g .start) 0 p)) (λ p. omega (arith, eqb-true (r .start) 0 p)) (or-cases (atZero g) (atZero r) e)))
+  where
+    there : hullOf g r .start ≡ 0 → (t : Bool) → leb (g .start) (r .start) ≡ t → (atZero g || atZero r) ≡ true
+    there e true p = rw (eq-eqb (g .start) 0 (omega (arith, leb-true (g .start) (r .start) p)))
+    there e false p = rw (eq-eqb (r .start) 0 (omega (arith, leb-false (g .start) (r .start) p))) (or-true (atZero g))
+
+pub joined-at-zero : (n : TpRange) (rs : List TpRange) → any atZero (joined n rs) ≡ (atZero n || any atZero rs)
+joined-at-zero n rs = joined-any atZero n (λ g r _ _. hull-at-zero g r) rs
+
+-- ---- the order of the ranges
+same-range : (a b : TpRange) → a .start ≡ b .start → a .end ≡ b .end → a ≡ b
+same-range a b p q = ap₂ (λ (s e : ℕ). range s e) p q
+
+hull-swap : (g a b : TpRange) → hullOf (hullOf g a) b ≡ hullOf (hullOf g b) a
+unfolding hullOf
+hull-swap g a b = same-range (hullOf (hullOf g a) b) (hullOf (hullOf g b) a) (omega arith) (omega arith)
+
+grow-swap : (g a b : TpRange) (s t : Bool) → growIf t (growIf s g a) b ≡ growIf s (growIf t g b) a
+grow-swap g a b true true = hull-swap g a b
+grow-swap g a b true false = refl
+grow-swap g a b false true = refl
+grow-swap g a b false false = refl
+
+grow-moved : (n g : TpRange) {rs qs : List TpRange} → Rearranged rs qs → grow n g rs ≡ grow n g qs
+unfolding grow
+grow-moved n g nothing = refl
+grow-moved n g (first {a} r) = grow-moved n (growIf (touch n a) g a) r
+grow-moved n g (swap {a} {b} {l}) = ap (λ (h : TpRange). grow n h l) (grow-swap g a b (touch n a) (touch n b))
+grow-moved n g (next r s) = grow-moved n g r ∙ grow-moved n g s
+
+unless-moved : (t : Bool) (a : TpRange) {l m : List TpRange} → Rearranged l m → Rearranged (unless t a l) (unless t a m)
+unless-moved true a r = r
+unless-moved false a r = first r
+
+unless-swap : (s t : Bool) (a b : TpRange) (l : List TpRange) → Rearranged (unless s a (unless t b l)) (unless t b (unless s a l))
+unless-swap true t a b l = unmoved (unless t b l)
+unless-swap false true a b l = unmoved (a ∷ l)
+unless-swap false false a b l = swap
+
+keep-moved : (n : TpRange) {rs qs : List TpRange} → Rearranged rs qs → Rearranged (keep n rs) (keep n qs)
+unfolding keep
+keep-moved n nothing = nothing
+keep-moved n (first {a} r) = unless-moved (touch n a) a (keep-moved n r)
+keep-moved n (swap {a} {b} {l}) = unless-swap (touch n a) (touch n b) a b (keep n l)
+keep-moved n (next r s) = next (keep-moved n r) (keep-moved n s)
+
+pub joining-order-unseen : JoiningOrderUnseen
+unfolding joined
+joining-order-unseen n rs qs r = rw (grow-moved n n r) (append-moved (keep-moved n r) (grow n n qs ∷ []))
+
+pub touch-moved : {rs qs : List TpRange} → Rearranged rs qs → someTouch rs ≡ someTouch qs
+unfolding someTouch any
+touch-moved nothing = refl
+touch-moved (first {a} {l} {m} r) = rw (any-moved (touch a) r, touch-moved r)
+touch-moved (swap {a} {b} {l}) = rw (touch-sym a b) (turn (touch b a) (any (touch a) l) (any (touch b) l) (someTouch l))
+  where
+    turn : (t x y z : Bool) → ((t || x) || (y || z)) ≡ ((t || y) || (x || z))
+    turn true x y z = refl
+    turn false x y z = or-swap x y z
+touch-moved (next r s) = touch-moved r ∙ touch-moved s

@@ -1,0 +1,217 @@
+-- Laws of tests, of what is said of a list's elements, and of lists in another order. Assumes nothing.
+use Prim.Native.Nat.{ℕ, suc}
+use mathlib.Core.Path.{_≡_, refl, sym, ap, subst, _∙_}
+use mathlib.Core.Bool.{Bool, true, false, _&&_, _||_, cond, true≢false, false≢true}
+use mathlib.Core.List.{List, [], _∷_, _++_}
+use mathlib.Core.Logic.{_⊎_, inl, inr, ⊎-elim, _≢_}
+use native.Mathlib.Omega.{arith}
+use lib.ListN.{length}
+use Rattle.numbers.specs.Answers.{All}
+use Rattle.tp_machine.specs.Ranges.{any}
+use Rattle.tp_machine.specs.Lists.{OneOf, Pairwise, Rearranged, nothing, first, swap, next, Latest}
+
+-- ---- tests
+pub or-inv : (a b : Bool) → (a || b) ≡ false → (a ≡ false) × (b ≡ false)
+or-inv true b e = absurd (true≢false e)
+or-inv false b e = (refl, e)
+
+pub or-cases : (a b : Bool) → (a || b) ≡ true → (a ≡ true) ⊎ (b ≡ true)
+or-cases true b e = inl refl
+or-cases false b e = inr e
+
+pub neither : (a b : Bool) → a ≡ false → b ≡ false → (a || b) ≡ false
+neither a b p q = rw (p, q)
+
+pub or-swap : (a b c : Bool) → (a || (b || c)) ≡ (b || (a || c))
+or-swap true true c = refl
+or-swap true false c = refl
+or-swap false b c = refl
+
+pub and-inv : (a b : Bool) → (a && b) ≡ true → (a ≡ true) × (b ≡ true)
+and-inv true b e = (refl, e)
+and-inv false b e = absurd (false≢true e)
+
+pub and-fails : (a b : Bool) → (a && b) ≡ false → a ≡ true → b ≡ false
+and-fails true b e h = e
+and-fails false b e h = absurd (false≢true h)
+
+pub not-both : (a b : Bool) → (a ≡ true → b ≡ false) → (a && b) ≡ false
+not-both true b f = f refl
+not-both false b f = refl
+
+pub same-test : (a b : Bool) → (a ≡ true → b ≡ true) → (b ≡ true → a ≡ true) → a ≡ b
+same-test true b f g = sym (f refl)
+same-test false true f g = g refl
+same-test false false f g = refl
+
+-- ---- each element
+module _ {A : Type 0} (P : A → Type 0) where
+  pub all-append : (xs : List A) (g : A) → All P xs → P g → All P (xs ++ (g ∷ []))
+  all-append [] g e p = (p, tt)
+  all-append (x ∷ xs) g e p = (e .0, all-append xs g (e .1) p)
+
+  pub all-moved : {l m : List A} → Rearranged l m → All P l → All P m
+  all-moved nothing e = e
+  all-moved (first r) e = (e .0, all-moved r (e .1))
+  all-moved swap e = (e .1 .0, (e .0, e .1 .1))
+  all-moved (next r s) e = all-moved s (all-moved r e)
+
+  pub all-map : (Q : A → Type 0) → ((x : A) → P x → Q x) → (xs : List A) → All P xs → All Q xs
+  all-map Q f [] e = tt
+  all-map Q f (x ∷ xs) e = (f x (e .0), all-map Q f xs (e .1))
+
+  pub all-both : (Q : A → Type 0) (xs : List A) → All P xs → All Q xs → All (λ x. P x × Q x) xs
+  all-both Q [] e f = tt
+  all-both Q (x ∷ xs) e f = ((e .0, f .0), all-both Q xs (e .1) (f .1))
+
+-- ---- one element
+module _ {A : Type 0} (f : A → Bool) where
+  pub any-all : (xs : List A) → any f xs ≡ false → All (λ x. f x ≡ false) xs
+  unfolding any
+  any-all [] e = tt
+  any-all (x ∷ xs) e = let o = or-inv (f x) (any f xs) e in (o .0, any-all xs (o .1))
+
+  pub all-any : (xs : List A) → All (λ x. f x ≡ false) xs → any f xs ≡ false
+  unfolding any
+  all-any [] e = refl
+  all-any (x ∷ xs) e = neither (f x) (any f xs) (e .0) (all-any xs (e .1))
+
+  pub any-append : (xs : List A) (g : A) → any f (xs ++ (g ∷ [])) ≡ (f g || any f xs)
+  unfolding any
+  any-append [] g = refl
+  any-append (x ∷ xs) g = ap (_||_ (f x)) (any-append xs g) ∙ or-swap (f x) (f g) (any f xs)
+
+  pub any-moved : {l m : List A} → Rearranged l m → any f l ≡ any f m
+  unfolding any
+  any-moved nothing = refl
+  any-moved (first {a} r) = ap (_||_ (f a)) (any-moved r)
+  any-moved (swap {a} {b} {l}) = or-swap (f a) (f b) (any f l)
+  any-moved (next r s) = any-moved r ∙ any-moved s
+
+-- ---- another order
+module _ {A : Type 0} where
+  pub unmoved : (l : List A) → Rearranged l l
+  unmoved [] = nothing
+  unmoved (x ∷ l) = first (unmoved l)
+
+  pub moved-back : {l m : List A} → Rearranged l m → Rearranged m l
+  moved-back nothing = nothing
+  moved-back (first r) = first (moved-back r)
+  moved-back swap = swap
+  moved-back (next r s) = next (moved-back s) (moved-back r)
+
+  pub length-moved : {l m : List A} → Rearranged l m → length l ≡ length m
+  length-moved nothing = refl
+  length-moved (first r) = ap suc (length-moved r)
+  length-moved swap = refl
+  length-moved (next r s) = length-moved r ∙ length-moved s
+
+  pub append-moved : {l m : List A} → Rearranged l m → (ys : List A) → Rearranged (l ++ ys) (m ++ ys)
+  append-moved nothing ys = unmoved ys
+  append-moved (first r) ys = first (append-moved r ys)
+  append-moved swap ys = swap
+  append-moved (next r s) ys = next (append-moved r ys) (append-moved s ys)
+
+  none-moved : {l m : List A} → Rearranged l m → l ≡ [] → m ≡ []
+  none-moved nothing e = refl
+  none-moved (first r) e = let z : _≡_ {A = ℕ} 0 1 = cc in absurd (omega arith)
+  none-moved swap e = let z : _≡_ {A = ℕ} 0 1 = cc in absurd (omega arith)
+  none-moved (next r s) e = none-moved s (none-moved r e)
+
+  -- a list of one has no other order
+  pub one-moved : {l m : List A} → Rearranged l m → (x : A) → l ≡ x ∷ [] → m ≡ x ∷ []
+  one-moved nothing x e = e
+  one-moved (first {a} {l} {m} r) x e =
+      let h : l ≡ [] = cc in
+      let k : m ≡ [] = none-moved r h in
+      cc
+  one-moved (swap {a} {b} {l}) x e =
+      let h : _≡_ {A = List A} (b ∷ l) [] = cc in
+      let z : _≡_ {A = ℕ} 0 1 = cc in
+      absurd (omega arith)
+  one-moved (next r s) x e = one-moved s x (one-moved r x e)
+
+-- ---- one of the elements
+module _ {A : Type 0} where
+  pub one-of-moved : {l m : List A} (x : A) → Rearranged l m → OneOf x l → OneOf x m
+  one-of-moved x nothing o = o
+  one-of-moved x (first r) (inl e) = inl e
+  one-of-moved x (first r) (inr o) = inr (one-of-moved x r o)
+  one-of-moved x swap (inl e) = inr (inl e)
+  one-of-moved x swap (inr (inl e)) = inl e
+  one-of-moved x swap (inr (inr o)) = inr (inr o)
+  one-of-moved x (next r s) o = one-of-moved x s (one-of-moved x r o)
+
+  -- each is one of them
+  pub each-one : (xs : List A) → All (λ x. OneOf x xs) xs
+  each-one [] = tt
+  each-one (x ∷ xs) = (inl refl, all-map (λ y. OneOf y xs) (λ y. OneOf y (x ∷ xs)) (λ y o. inr o) xs (each-one xs))
+
+  -- it can be brought to the front
+  to-front : (x : A) (ys : List A) → OneOf x ys → (zs : List A) × Rearranged ys (x ∷ zs)
+  to-front x [] o = absurd o
+  to-front x (y ∷ ys) (inl e) = (ys, subst (λ (z : A). Rearranged (y ∷ ys) (z ∷ ys)) (sym e) (unmoved (y ∷ ys)))
+  to-front x (y ∷ ys) (inr o) = let w = to-front x ys o in (y ∷ w .0, next (first (w .1)) swap)
+
+  distinct-moved : {l m : List A} → Rearranged l m → Pairwise _≢_ l → Pairwise _≢_ m
+  distinct-moved nothing h = h
+  distinct-moved (first {a} r) h = (all-moved (_≢_ a) r (h .0), distinct-moved r (h .1))
+  distinct-moved swap h = (((λ e. h .0 .0 (sym e)), h .1 .0), (h .0 .1, h .1 .1))
+  distinct-moved (next r s) h = distinct-moved s (distinct-moved r h)
+
+  others : (x : A) (xs ys : List A) → All (_≢_ x) ys → All (λ y. OneOf y (x ∷ xs)) ys → All (λ y. OneOf y xs) ys
+  others x xs [] n o = tt
+  others x xs (y ∷ ys) n o = (⊎-elim (λ e. absurd (n .0 (sym e))) (λ k. k) (o .0), others x xs ys (n .1) (o .1))
+
+  -- lists with the same elements, in which no element stands twice, differ only in their order
+  pub same-elements : (xs ys : List A) → Pairwise _≢_ xs → Pairwise _≢_ ys → All (λ x. OneOf x ys) xs → All (λ y. OneOf y xs) ys → Rearranged xs ys
+  same-elements [] [] p q t b = nothing
+  same-elements [] (y ∷ ys) p q t b = absurd (b .0)
+  same-elements (x ∷ xs) ys p q t b =
+      let w = to-front x ys (t .0) in
+      let d = distinct-moved (w .1) q in
+      let there = all-map (λ y. OneOf y ys) (λ y. OneOf y (x ∷ w .0)) (λ y. one-of-moved y (w .1)) xs (t .1) in
+      let back = all-moved (λ y. OneOf y (x ∷ xs)) (w .1) b in
+      next (first (same-elements xs (w .0) (p .1) (d .1) (others x (w .0) xs (p .0) there) (others x xs (w .0) (d .0) (back .1)))) (moved-back (w .1))
+
+-- ---- the latest element that passes a test
+module _ {A : Type 0} (f : A → Bool) where
+  pub latest-later : (x : A) (xs : List A) (y : A) → Latest f xs y → Latest f (x ∷ xs) y
+  latest-later x xs y l = record { before = x ∷ l .before; behind = l .behind; among = ap (λ (t : List A). x ∷ t) (l .among); passes = l .passes; none = l .none }
+
+  -- there is one where one passes
+  pub latest-of : (xs : List A) → any f xs ≡ true → (x : A) × Latest f xs x
+  unfolding any
+  latest-of [] e = absurd (false≢true e)
+  latest-of (x ∷ xs) e = go (latest-of xs) (any f xs) refl
+    where
+      go : (any f xs ≡ true → (y : A) × Latest f xs y) → (t : Bool) → any f xs ≡ t → (y : A) × Latest f (x ∷ xs) y
+      go later true h = let w = later h in (w .0, latest-later x xs (w .0) (w .1))
+      go later false h = (x, record { before = []; behind = xs; among = refl; passes = ⊎-elim (λ p. p) (λ p. absurd (false≢true (sym h ∙ p))) (or-cases (f x) (any f xs) e); none = h })
+
+  -- it has what each element has
+  all-split : (P : A → Type 0) (before : List A) (x : A) (behind : List A) → All P (before ++ (x ∷ behind)) → P x
+  all-split P [] x behind a = a .0
+  all-split P (y ∷ before) x behind a = all-split P before x behind (a .1)
+
+  pub all-latest : (P : A → Type 0) (xs : List A) (x : A) → Latest f xs x → All P xs → P x
+  all-latest P xs x l a = all-split P (l .before) x (l .behind) (subst (All P) (l .among) a)
+
+-- what the latest element that passes gives, else v
+unfoldable pub newest : {A B : Type 0} → (A → Bool) → (A → B) → B → List A → B
+newest f g v [] = v
+newest f g v (x ∷ xs) = newest f g (cond (f x) (g x) v) xs
+
+module _ {A B : Type 0} (f : A → Bool) (g : A → B) where
+  pub newest-none : (v : B) (xs : List A) → any f xs ≡ false → newest f g v xs ≡ v
+  unfolding any newest
+  newest-none v [] e = refl
+  newest-none v (x ∷ xs) e = let o = or-inv (f x) (any f xs) e in ap (λ (t : Bool). newest f g (cond t (g x) v) xs) (o .0) ∙ newest-none v xs (o .1)
+
+  at-split : (v : B) (before : List A) (x : A) (behind : List A) → f x ≡ true → any f behind ≡ false → newest f g v (before ++ (x ∷ behind)) ≡ g x
+  unfolding newest
+  at-split v [] x behind p n = ap (λ (t : Bool). newest f g (cond t (g x) v) behind) p ∙ newest-none (g x) behind n
+  at-split v (y ∷ before) x behind p n = at-split (cond (f y) (g y) v) before x behind p n
+
+  pub newest-latest : (v : B) (xs : List A) (x : A) → Latest f xs x → newest f g v xs ≡ g x
+  newest-latest v xs x l = ap (newest f g v) (l .among) ∙ at-split v (l .before) x (l .behind) (l .passes) (l .none)

@@ -1,0 +1,82 @@
+-- One call: what it leaves when it accepts and when it refuses, that it reads none of the buffer's bytes, on what the
+-- ranges after it depend, and that no malformed state is come to.
+-- Assumes nothing.
+use Prim.Native.Nat.{ℕ, _≤_}
+use mathlib.Core.Path.{_≡_, refl, sym, ap, _∙_}
+use mathlib.Core.Bool.{Bool, true, false}
+use mathlib.Core.List.{List}
+use native.Mathlib.Omega.{arith}
+use borrow.Author.Tests.{ltb-false}
+use lib.Dec.{ltb}
+use lib.ListN.{length}
+use Rattle.numbers.specs.Refusals.{Refusal}
+use Rattle.numbers.specs.Answers.{accepted, refused, Verdict, pass}
+use Rattle.numbers.proofs.AnswerLaws.{not-refused}
+use Rattle.tp_machine.specs.Segments.{written}
+use Rattle.tp_machine.specs.Machine.{highest, State, fresh, taken, judged, after, step, begin, clear}
+use Rattle.tp_machine.specs.Meaning.{rangeOf, Good}
+use Rattle.tp_machine.specs.Runs.{begins, comes, clears}
+use Rattle.tp_machine.specs.Theorems.{Stepped, EveryStep, BytesUnseen, RangesDepend, NeverMalformed}
+use Rattle.tp_machine.proofs.Joining.{joining-order-unseen}
+use Rattle.tp_machine.proofs.Tests.{accepted-means, taken-good}
+
+-- ---- one call
+pub every-step : EveryStep
+unfolding step after
+every-step p seg buf = go (judged p seg (length buf)) refl
+  where
+    go : (v : Verdict) → judged p seg (length buf) ≡ v → Stepped p seg buf (after v p seg buf)
+    go (accepted u) e = record { answer = sym e; accepts = λ _. (refl, refl); refuses = λ r q. not-refused r tt (sym q) }
+    go (refused r) e = record { answer = sym e; accepts = λ q. not-refused r tt q; refuses = λ _ _. (refl, refl) }
+
+pub bytes-unseen : BytesUnseen
+unfolding step after
+bytes-unseen p seg b c e = (every-step p seg b .answer ∙ ap (judged p seg) e ∙ sym (every-step p seg c .answer), rw e (go (judged p seg (length c))))
+  where
+    go : (v : Verdict) → after v p seg b .state ≡ after v p seg c .state
+    go (accepted u) = refl
+    go (refused r) = refl
+
+pub ranges-depend : RangesDepend
+ranges-depend p q seg b c x y r =
+    let after-p : step p seg b .state ≡ taken p seg = every-step p seg b .accepts x .0 in
+    let after-q : step q seg c .state ≡ taken q seg = every-step q seg c .accepts y .0 in
+    rw (after-p, after-q) (joining-order-unseen (rangeOf seg) (p .ranges) (q .ranges) r)
+
+pub step-accepted : (p : State) (seg buf : List ℕ) (u : Unit {0}) → judged p seg (length buf) ≡ accepted u → step p seg buf ≡ record { answer = pass; state = taken p seg; buffer = written buf seg }
+unfolding step after
+step-accepted p seg buf u e = rw e
+
+pub step-refused : (p : State) (seg buf : List ℕ) (r : Refusal) → judged p seg (length buf) ≡ refused r → step p seg buf ≡ record { answer = refused r; state = p; buffer = buf }
+unfolding step after
+step-refused p seg buf r e = rw e
+
+-- ---- no malformed state is come to
+fresh-good : (limit : ℕ) → limit ≤ highest → Good (fresh limit)
+fresh-good limit h = record { few = omega arith; low = h; end-within = tt; each = tt; apart = tt }
+
+begin-low : (limit : ℕ) → begin limit .limit ≤ highest
+unfolding begin
+begin-low limit = go (ltb highest limit) refl
+  where
+    go : (t : Bool) → ltb highest limit ≡ t → begin limit .limit ≤ highest
+    go true e = rw e (omega arith)
+    go false e = rw e (omega (arith, ltb-false highest limit e))
+
+pub begin-good : (limit : ℕ) → Good (begin limit)
+unfolding begin
+begin-good limit = fresh-good (begin limit .limit) (begin-low limit)
+
+step-good : (p : State) (seg buf : List ℕ) → Good p → Good (step p seg buf .state)
+unfolding step after
+step-good p seg buf g = go (judged p seg (length buf)) refl
+  where
+    go : (v : Verdict) → judged p seg (length buf) ≡ v → Good (after v p seg buf .state)
+    go (accepted u) e = taken-good p seg (length buf) (accepted-means p seg (length buf) .0 e)
+    go (refused r) e = g
+
+pub never-malformed : NeverMalformed
+unfolding clear
+never-malformed p (begins limit) = begin-good limit
+never-malformed q (comes {p} r seg buf) = step-good p seg buf (never-malformed p r)
+never-malformed q (clears {p} r) = fresh-good (p .limit) (never-malformed p r .low)

@@ -1,0 +1,178 @@
+-- The machine's tests mean what document 01 says in plain words, both ways; and an accepted segment leaves no malformed state.
+-- Assumes nothing.
+use Prim.Native.Nat.{ℕ, _+_, _-_, _%_, _≤_}
+use mathlib.Core.Path.{_≡_, refl, sym, ap, _∙_}
+use mathlib.Core.Bool.{Bool, true, false, not, cond, or-false, or-true, false≢true}
+use mathlib.Core.List.{List, [], _∷_}
+use mathlib.Core.Logic.{_⊎_, inl, inr, ⊎-elim, _↔_}
+use native.Mathlib.Omega.{arith}
+use borrow.Author.Tests.{ltb-false, le-ltb, eqb-true, eq-eqb, not-true, not-false}
+use lib.Dec.{ltb, eqb}
+use lib.ListN.{length, getD}
+use Rattle.numbers.specs.Bytes.{at32}
+use Rattle.numbers.specs.Refusals.{not-a-segment, segment-too-big, unaligned, conflicting-end, buffer-too-short, ranges-full, malformed-state}
+use Rattle.numbers.proofs.AnswerLaws.{when-accepted, when-pass}
+use Rattle.tp_machine.specs.declared.TpRange.{TpRange}
+use Rattle.tp_machine.specs.declared.TpEnd.{TpEnd}
+use Rattle.tp_machine.specs.declared.TpEnd.the-variants.{Unknown, Known}
+use Rattle.tp_machine.specs.Lists.{OneOf}
+use Rattle.tp_machine.specs.Segments.{tpType, isSegment, offset, more, size, endOf}
+use Rattle.tp_machine.specs.Ranges.{any, hullOf, someTouch}
+use Rattle.tp_machine.specs.Machine.{most, highest, State, badRange, endPast, badState, tooBig, notAligned, conflicts, previous, tooShort, taken, tooMany, judged}
+use Rattle.tp_machine.specs.Taking.{isKnown, whole, complete}
+use Rattle.tp_machine.specs.Meaning.{types, range, rangeOf, Fine, Within, Good, Agrees, Accepted}
+use Rattle.tp_machine.specs.Theorems.{SegmentMeans, GoodMeans, AcceptedMeans, CompleteMeans}
+use Rattle.tp_machine.proofs.Lists.{or-inv, or-cases, neither, and-inv, and-fails, not-both, all-map, any-all, all-any}
+use Rattle.tp_machine.proofs.Joining.{all-joined, all-apart, joined-apart}
+
+-- ---- 30
+one-of-means : (x : ℕ) (ys : List ℕ) → (any (eqb x) ys ≡ true) ↔ OneOf x ys
+unfolding any
+one-of-means x [] = ((λ e. false≢true e), (λ o. absurd o))
+one-of-means x (y ∷ ys) = (
+  (λ e. ⊎-elim (λ p. inl (eqb-true x y p)) (λ p. inr (one-of-means x ys .0 p)) (or-cases (eqb x y) (any (eqb x) ys) e)),
+  (λ o. ⊎-elim (λ p. rw (eq-eqb x y p)) (λ p. rw (one-of-means x ys .1 p) (or-true (eqb x y))) o),
+)
+
+type-test : (t : ℕ) → tpType t ≡ any (eqb t) types
+unfolding tpType any
+type-test t = rw (or-false (eqb t 0xa1))
+
+type-means : (t : ℕ) → (tpType t ≡ true) ↔ OneOf t types
+type-means t = ((λ e. one-of-means t types .0 (sym (type-test t) ∙ e)), (λ o. type-test t ∙ one-of-means t types .1 o))
+
+pub segment-means : SegmentMeans
+unfolding isSegment
+segment-means s = (
+  (λ e.
+      let a = and-inv (not (ltb (length s) 20)) _ e in
+      let b = and-inv (eqb (at32 s 4) (length s - 8)) _ (a .1) in
+      let c = and-inv (eqb (getD s 12 0) 1) _ (b .1) in
+      let l : 20 ≤ length s = ltb-false (length s) 20 (not-true (ltb (length s) 20) (a .0)) in
+      record { long = l; counted = omega (arith, eqb-true (at32 s 4) (length s - 8) (b .0)); version = eqb-true (getD s 12 0) 1 (c .0); type = type-means (getD s 14 0) .0 (c .1) }),
+  (λ h. rw (le-ltb (length s) 20 (h .long), eq-eqb (at32 s 4) (length s - 8) (omega (arith, h .counted)), h .version, type-means (getD s 14 0) .1 (h .type))),
+)
+
+-- ---- 38
+fine-means : (p : State) (r : TpRange) → (badRange p r ≡ false) ↔ Fine p r
+unfolding badRange
+fine-means p r = (
+  (λ e. let a = or-inv (ltb (r .end) (r .start)) _ e in record { forth = ltb-false (r .end) (r .start) (a .0); within = ltb-false (p .limit) (r .end) (a .1) }),
+  (λ f. neither _ _ (le-ltb (r .end) (r .start) (f .forth)) (le-ltb (p .limit) (r .end) (f .within))),
+)
+
+within-means : (e : TpEnd) (x : ℕ) → (endPast e x ≡ false) ↔ Within e x
+within-means Unknown x = ((λ e. tt), (λ h. refl))
+within-means (Known e) x = (ltb-false x e, le-ltb x e)
+
+pub good-means : GoodMeans
+unfolding badState
+good-means p = (
+  (λ e.
+      let a = or-inv (ltb most (length (p .ranges))) _ e in
+      let b = or-inv (ltb highest (p .limit)) _ (a .1) in
+      let c = or-inv (endPast (p .end) (p .limit)) _ (b .1) in
+      let d = or-inv (any (badRange p) (p .ranges)) (someTouch (p .ranges)) (c .1) in
+      record {
+        few = ltb-false most (length (p .ranges)) (a .0);
+        low = ltb-false highest (p .limit) (b .0);
+        end-within = within-means (p .end) (p .limit) .0 (c .0);
+        each = all-map (λ r. badRange p r ≡ false) (Fine p) (λ r. fine-means p r .0) (p .ranges) (any-all (badRange p) (p .ranges) (d .0));
+        apart = all-apart (p .ranges) .0 (d .1);
+      }),
+  (λ g.
+      let each = all-map (Fine p) (λ r. badRange p r ≡ false) (λ r. fine-means p r .1) (p .ranges) (g .each) in
+      neither _ _ (le-ltb most (length (p .ranges)) (g .few)) (neither _ _ (le-ltb highest (p .limit) (g .low))
+      (neither _ _ (within-means (p .end) (p .limit) .1 (g .end-within)) (neither _ _ (all-any (badRange p) (p .ranges) each) (all-apart (p .ranges) .1 (g .apart)))))),
+)
+
+-- ---- 31 to 35
+aligned-means : (seg : List ℕ) → (notAligned seg ≡ false) ↔ (more seg ≡ true → size seg % 16 ≡ 0)
+aligned-means seg = (
+  (λ e h. eqb-true (size seg % 16) 0 (not-false (eqb (size seg % 16) 0) (and-fails (more seg) (not (eqb (size seg % 16) 0)) e h))),
+  (λ f. not-both (more seg) (not (eqb (size seg % 16) 0)) (λ h. ap not (eq-eqb (size seg % 16) 0 (f h)))),
+)
+
+agrees-means : (e : TpEnd) (m : Bool) (x : ℕ) → (conflicts e m x ≡ false) ↔ Agrees e m x
+agrees-means Unknown m x = ((λ e. tt), (λ h. refl))
+agrees-means (Known e) m x = (
+  (λ q. let a = or-inv (ltb e x) _ q in (ltb-false e x (a .0), (λ h. eqb-true x e (not-false (eqb x e) (and-fails (not m) (not (eqb x e)) (a .1) (ap not h)))))),
+  (λ h. neither _ _ (le-ltb e x (h .0)) (not-both (not m) (not (eqb x e)) (λ f. ap not (eq-eqb x e (h .1 (not-true m f)))))),
+)
+
+pub accepted-means : AcceptedMeans
+unfolding judged
+accepted-means p seg room = (
+  (λ e.
+      let a = when-accepted malformed-state (badState p) _ tt e in
+      let b = when-accepted not-a-segment (not (isSegment seg)) _ tt (a .1) in
+      let c = when-accepted (segment-too-big (offset seg) (size seg) (p .limit)) (tooBig p seg) _ tt (b .1) in
+      let d = when-accepted (unaligned (offset seg) (size seg)) (notAligned seg) _ tt (c .1) in
+      let f = when-accepted (conflicting-end (previous (p .end)) (endOf seg)) (conflicts (p .end) (more seg) (endOf seg)) _ tt (d .1) in
+      let g = when-accepted (buffer-too-short (16 + endOf seg)) (tooShort seg room) _ tt (f .1) in
+      let h = when-accepted ranges-full (tooMany p seg) _ tt (g .1) in
+      record {
+        good = good-means p .0 (a .0);
+        segment = segment-means seg .0 (not-false (isSegment seg) (b .0));
+        within = ltb-false (p .limit) (endOf seg) (c .0);
+        aligned = aligned-means seg .0 (d .0);
+        agrees = agrees-means (p .end) (more seg) (endOf seg) .0 (f .0);
+        fits = ltb-false room (16 + endOf seg) (g .0);
+        few = ltb-false most (length (taken p seg .ranges)) (h .0);
+      }),
+  (λ t.
+      when-pass malformed-state (badState p) _ (good-means p .1 (t .good))
+      ∙ when-pass not-a-segment (not (isSegment seg)) _ (ap not (segment-means seg .1 (t .segment)))
+      ∙ when-pass (segment-too-big (offset seg) (size seg) (p .limit)) (tooBig p seg) _ (le-ltb (p .limit) (endOf seg) (t .within))
+      ∙ when-pass (unaligned (offset seg) (size seg)) (notAligned seg) _ (aligned-means seg .1 (t .aligned))
+      ∙ when-pass (conflicting-end (previous (p .end)) (endOf seg)) (conflicts (p .end) (more seg) (endOf seg)) _ (agrees-means (p .end) (more seg) (endOf seg) .1 (t .agrees))
+      ∙ when-pass (buffer-too-short (16 + endOf seg)) (tooShort seg room) _ (le-ltb room (16 + endOf seg) (t .fits))
+      ∙ when-pass ranges-full (tooMany p seg) _ (le-ltb most (length (taken p seg .ranges)) (t .few))),
+)
+
+-- ---- 37
+known-means : (e : TpEnd) → isKnown e ≡ true → (x : ℕ) × (e ≡ Known x)
+known-means Unknown h = absurd (false≢true h)
+known-means (Known x) h = (x, refl)
+
+pub whole-means : (rs : List TpRange) → whole rs ≡ true → (e : ℕ) × (rs ≡ range 0 e ∷ [])
+whole-means [] h = absurd (false≢true h)
+whole-means (r ∷ []) h = (r .end, ap (λ (x : ℕ). range x (r .end) ∷ []) (eqb-true (r .start) 0 h))
+whole-means (r ∷ x ∷ rs) h = absurd (false≢true h)
+
+pub complete-means : CompleteMeans
+unfolding complete
+complete-means p = (
+  (λ e.
+      let a = and-inv (not (badState p)) _ e in
+      let b = and-inv (isKnown (p .end)) (whole (p .ranges)) (a .1) in
+      let k = known-means (p .end) (b .0) in
+      let w = whole-means (p .ranges) (b .1) in
+      record { good = good-means p .0 (not-true (badState p) (a .0)); end = k .0; known = k .1; held = w .0; one-range = w .1 }),
+  (λ c. rw (good-means p .1 (c .good), ap isKnown (c .known), ap whole (c .one-range))),
+)
+
+-- ---- what is left of an accepted segment
+within-after : (m : Bool) (e : TpEnd) (x limit : ℕ) → x ≤ limit → Within e limit → Within (cond m e (Known x)) limit
+within-after true e x limit h w = w
+within-after false e x limit h w = h
+
+fine-hull : (p : State) (g r : TpRange) → Fine p g → Fine p r → Fine p (hullOf g r)
+unfolding hullOf
+fine-hull p g r f h = record { forth = omega arith; within = omega arith }
+
+-- a range that was fine stays so
+still-fine : (p : State) (seg : List ℕ) (r : TpRange) → Fine p r → Fine (taken p seg) r
+still-fine p seg r f = record { forth = f .forth; within = f .within }
+
+pub taken-good : (p : State) (seg : List ℕ) (room : ℕ) → Accepted p seg room → Good (taken p seg)
+taken-good p seg room t =
+    let g = t .good in
+    record {
+      few = t .few;
+      low = g .low;
+      end-within = within-after (more seg) (p .end) (endOf seg) (p .limit) (t .within) (g .end-within);
+      each = all-joined (Fine (taken p seg)) (rangeOf seg) (fine-hull (taken p seg)) (p .ranges) (record { forth = omega arith; within = t .within }) (all-map (Fine p) (Fine (taken p seg)) (still-fine p seg) (p .ranges) (g .each));
+      apart = all-apart (taken p seg .ranges) .0
+          (joined-apart (rangeOf seg) (p .ranges) (all-apart (p .ranges) .1 (g .apart)) (all-map (Fine p) (λ r. r .start ≤ r .end) (λ r f. f .forth) (p .ranges) (g .each)));
+    }

@@ -1,0 +1,29 @@
+-- All that is shown of the machine, each from the file that proves it. Assumes nothing.
+use Rattle.tp_machine.specs.Theorems.{Theorems}
+use Rattle.tp_machine.proofs.Tests.{segment-means, good-means, accepted-means, complete-means}
+use Rattle.tp_machine.proofs.Writing.{header-means}
+use Rattle.tp_machine.proofs.Steps.{every-step, bytes-unseen, ranges-depend, never-malformed}
+use Rattle.tp_machine.proofs.Joining.{joining-covers, joining-order-unseen}
+use Rattle.tp_machine.proofs.Runs.{every-run}
+use Rattle.tp_machine.proofs.Report.{every-report}
+use Rattle.tp_machine.proofs.Order.{set-is-order, order-unseen, runs-alike}
+
+pub theorems : Theorems
+theorems = record {
+  segment-means = segment-means;
+  header-means = header-means;
+  good-means = good-means;
+  accepted-means = accepted-means;
+  complete-means = complete-means;
+  every-step = every-step;
+  bytes-unseen = bytes-unseen;
+  joining-covers = joining-covers;
+  joining-order-unseen = joining-order-unseen;
+  ranges-depend = ranges-depend;
+  never-malformed = never-malformed;
+  every-run = every-run;
+  every-report = every-report;
+  set-is-order = set-is-order;
+  order-unseen = order-unseen;
+  runs-alike = runs-alike;
+}

@@ -1,0 +1,127 @@
+-- What is shown of the machine: each a statement, and all of them together at the end. Assumes nothing: these are definitions.
+use Prim.Native.Nat.{ℕ, _+_, _≤_}
+use mathlib.Core.Path.{_≡_}
+use mathlib.Core.Bool.{true, false, _||_}
+use mathlib.Core.List.{List, [], _∷_}
+use mathlib.Core.Logic.{_↔_}
+use lib.ListN.{length, getD}
+use Rattle.numbers.specs.Bytes.{be32}
+use Rattle.numbers.specs.Refusals.{Refusal}
+use Rattle.numbers.specs.Answers.{accepted, refused, pass, All}
+use Rattle.tp_machine.specs.declared.TpRange.{TpRange}
+use Rattle.tp_machine.specs.Lists.{Rearranged, Latest}
+use Rattle.tp_machine.specs.Segments.{isSegment, header, pasted, written}
+use Rattle.tp_machine.specs.Ranges.{any, joined}
+use Rattle.tp_machine.specs.Machine.{State, Out, badState, taken, judged, step, begin, opened, fed, clear}
+use Rattle.tp_machine.specs.Taking.{complete, taking}
+use Rattle.tp_machine.specs.Meaning.{Segment, HeaderOf, range, Good, Accepted, Complete}
+use Rattle.tp_machine.specs.Runs.{Reached, admitted, holds, covered, spans, brought, Made, Lies, Ended, Filled, Reported, SameSet, Same, Alike}
+
+-- ---- the tests mean what document 01 says, both ways
+abbrev pub SegmentMeans : Type 0
+SegmentMeans = (s : List ℕ) → (isSegment s ≡ true) ↔ Segment s
+
+abbrev pub HeaderMeans : Type 0
+HeaderMeans = (s : List ℕ) → 20 ≤ length s → HeaderOf s (header s)
+
+abbrev pub GoodMeans : Type 0
+GoodMeans = (p : State) → (badState p ≡ false) ↔ Good p
+
+abbrev pub AcceptedMeans : Type 0
+AcceptedMeans = (p : State) (seg : List ℕ) (room : ℕ) → (judged p seg room ≡ pass) ↔ Accepted p seg room
+
+abbrev pub CompleteMeans : Type 0
+CompleteMeans = (p : State) → (complete p ≡ true) ↔ Complete p
+
+-- ---- one call: its answer is the first refusal or none; what an accepted segment leaves, and that a refusal leaves state and buffer as they were
+pub record Stepped (p : State) (seg buf : List ℕ) (o : Out) : Type 0 where
+  pub answer : o .answer ≡ judged p seg (length buf)
+  pub accepts : o .answer ≡ pass → (o .state ≡ taken p seg) × (o .buffer ≡ written buf seg)
+  pub refuses : (r : Refusal) → o .answer ≡ refused r → (o .state ≡ p) × (o .buffer ≡ buf)
+
+abbrev pub EveryStep : Type 0
+EveryStep = (p : State) (seg buf : List ℕ) → Stepped p seg buf (step p seg buf)
+
+-- the bytes of the buffer are not seen, only how many they are
+abbrev pub BytesUnseen : Type 0
+BytesUnseen = (p : State) (seg b c : List ℕ) → length b ≡ length c → (step p seg b .answer ≡ step p seg c .answer) × (step p seg b .state ≡ step p seg c .state)
+
+-- ---- joining: the places covered are those of the new range and of the old ones; the set of ranges depends on the set before
+abbrev pub JoiningCovers : Type 0
+JoiningCovers = (n : TpRange) (rs : List TpRange) (x : ℕ) → covered (joined n rs) x ≡ (holds x n || covered rs x)
+
+abbrev pub JoiningOrderUnseen : Type 0
+JoiningOrderUnseen = (n : TpRange) (rs qs : List TpRange) → Rearranged rs qs → Rearranged (joined n rs) (joined n qs)
+
+-- after an accepted segment that set depends on nothing else: neither on limit, end and order before, nor on the buffer
+abbrev pub RangesDepend : Type 0
+RangesDepend = (p q : State) (seg b c : List ℕ) → step p seg b .answer ≡ pass → step q seg c .answer ≡ pass → Rearranged (p .ranges) (q .ranges) → Rearranged (step p seg b .state .ranges) (step q seg c .state .ranges)
+
+-- ---- runs: no malformed state is come to, so that ranges stay apart and within the limit
+abbrev pub NeverMalformed : Type 0
+NeverMalformed = (p : State) → Reached p → Good p
+
+-- what segments, accepted or refused, leave of a fresh stream over a buffer
+pub record Run (limit : ℕ) (buf : List ℕ) (ss : List (List ℕ)) : Type 0 where
+  pub good : Good (fed (opened limit buf) ss .state)
+  pub limit-stays : fed (opened limit buf) ss .state .limit ≡ begin limit .limit
+  pub covers : (x : ℕ) → covered (fed (opened limit buf) ss .state .ranges) x ≡ any (spans x) (admitted (opened limit buf) ss)
+  pub made : All (Made (admitted (opened limit buf) ss)) (fed (opened limit buf) ss .state .ranges)
+  pub lie : All (Lies (fed (opened limit buf) ss .state .ranges)) (admitted (opened limit buf) ss)
+  pub ended : Ended (admitted (opened limit buf) ss) (fed (opened limit buf) ss .state .end)
+  pub filled : Filled buf (admitted (opened limit buf) ss) (fed (opened limit buf) ss .buffer)
+  -- under the ranges stands what the latest accepted segment that covers the place brought, elsewhere what was lent
+  pub under : (x : ℕ) → covered (fed (opened limit buf) ss .state .ranges) x ≡ true
+      → (s : List ℕ) × Latest (spans x) (admitted (opened limit buf) ss) s × (getD (fed (opened limit buf) ss .buffer) (16 + x) 0 ≡ brought x s)
+  pub elsewhere : (x : ℕ) → covered (fed (opened limit buf) ss .state .ranges) x ≡ false → getD (fed (opened limit buf) ss .buffer) (16 + x) 0 ≡ getD buf (16 + x) 0
+
+abbrev pub EveryRun : Type 0
+EveryRun = (limit : ℕ) (buf : List ℕ) (ss : List (List ℕ)) → Run limit buf ss
+
+-- a complete stream's report is given, whatever came: the one range's bytes; of the buffer, bytes 4 to 7 change
+pub record Given (o : Out) (segs : List (List ℕ)) : Type 0 where
+  pub size : ℕ
+  pub one-range : o .state .ranges ≡ range 0 size ∷ []
+  pub answer : taking (o .state) (o .buffer) .answer ≡ accepted size
+  pub buffer : taking (o .state) (o .buffer) .buffer ≡ pasted (o .buffer) 4 (be32 (size + 8))
+  pub reported : Reported segs size (taking (o .state) (o .buffer) .part)
+
+abbrev pub EveryReport : Type 0
+EveryReport = (limit : ℕ) (buf : List ℕ) (ss : List (List ℕ)) → complete (fed (opened limit buf) ss .state) ≡ true → Given (fed (opened limit buf) ss) (admitted (opened limit buf) ss)
+
+-- ---- the order of the ranges is not seen: well-formed states with the same set of ranges differ only in it
+abbrev pub SetIsOrder : Type 0
+SetIsOrder = (p q : State) → Good p → Good q → SameSet (p .ranges) (q .ranges) → Rearranged (p .ranges) (q .ranges)
+
+-- no call sees it, in any state
+pub record Unseen (p q : State) : Type 0 where
+  pub malformed : badState p ≡ badState q
+  pub step-alike : (seg buf : List ℕ) → Alike (step p seg buf) (step q seg buf)
+  pub complete-alike : complete p ≡ complete q
+  pub taking-alike : (buf : List ℕ) → taking p buf ≡ taking q buf
+  pub clear-alike : clear p ≡ clear q
+
+abbrev pub OrderUnseen : Type 0
+OrderUnseen = (p q : State) → Same p q → Unseen p q
+
+abbrev pub RunsAlike : Type 0
+RunsAlike = (x y : Out) → Alike x y → (ss : List (List ℕ)) → Alike (fed x ss) (fed y ss)
+
+-- ---- all of them
+pub record Theorems : Type 0 where
+  pub segment-means : SegmentMeans
+  pub header-means : HeaderMeans
+  pub good-means : GoodMeans
+  pub accepted-means : AcceptedMeans
+  pub complete-means : CompleteMeans
+  pub every-step : EveryStep
+  pub bytes-unseen : BytesUnseen
+  pub joining-covers : JoiningCovers
+  pub joining-order-unseen : JoiningOrderUnseen
+  pub ranges-depend : RangesDepend
+  pub never-malformed : NeverMalformed
+  pub every-run : EveryRun
+  pub every-report : EveryReport
+  pub set-is-order : SetIsOrder
+  pub order-unseen : OrderUnseen
+  pub runs-alike : RunsAlike
