@@ -51,7 +51,11 @@ fn push_option(r: &mut Random, code: u8, length: usize, first: u8, out: &mut Vec
 pub fn good_string(r: &mut Random, items: usize, out: &mut Vec<u8>) {
     for _ in 0..items {
         let key = r.between(1, 10);
-        let value = if r.once_in(3) { None } else { Some(r.below(16)) };
+        let value = if r.once_in(3) {
+            None
+        } else {
+            Some(r.below(16))
+        };
         out.push((key + value.map_or(0, |n| n + 1)) as u8);
         for _ in 0..key {
             out.push(r.pick(b"abcdefghijklmnopqrstuvwxyz0123456789-_.~ !Z"));
@@ -76,11 +80,16 @@ pub fn damaged_string(r: &mut Random, out: &mut Vec<u8>) {
     for _ in 0..r.between(1, 3) {
         let at = r.below(string.len() + 1);
         let telling = r.pick(&[0, 1, 2, 0x1f, 0x20, 0x3d, 0x41, 0x7e, 0x7f, 0x80, 0xff]);
-        match r.below(5) {
+        match r.below(7) {
             0 if at < string.len() => string[at] = r.byte(),
             1 if at < string.len() => string[at] = telling,
             2 => string.truncate(at),
             3 => string.insert(at, telling),
+            4 => {
+                // An item whose key is empty, or all spaces.
+                let item: &[u8] = r.pick(&[b"\x01=", b"\x02=v", b"\x01 ", b"\x02  ", b"\x03 =v"]);
+                string.splice(0..0, item.iter().copied());
+            }
             _ => {
                 string.push(telling);
             }
@@ -305,10 +314,11 @@ fn boundary(r: &mut Random, out: &mut Vec<u8>) {
     out[4..8].copy_from_slice(&(announced as u32).to_be_bytes());
     if r.once_in(3) {
         let at = 8 + real;
-        let other = match r.below(4) {
+        let other = match r.below(5) {
             0 => length + 1,
             1 => length.saturating_sub(1),
             2 => r.pick(&[0, 1388, 1389, 1 << 16, u32::MAX as usize]),
+            3 => (room + 1 + r.below(real + 1)).min(MOST_OPTIONS),
             _ => r.below(1500),
         };
         out[at..at + 4].copy_from_slice(&(other as u32).to_be_bytes());
@@ -324,6 +334,19 @@ fn boundary(r: &mut Random, out: &mut Vec<u8>) {
         }
         _ => {}
     }
+}
+
+/// A short payload that announces more than 1,400 bytes in all, each part within its own limit.
+pub fn announcing_too_much(r: &mut Random, out: &mut Vec<u8>) {
+    out.clear();
+    let mut entries = Vec::new();
+    for _ in 0..r.between(1, 4) {
+        push_entry(r, 3, true, &mut entries);
+    }
+    lay(r, &entries, &[], out);
+    let announced = MOST_OPTIONS - r.below(entries.len());
+    let at = 8 + entries.len();
+    out[at..at + 4].copy_from_slice(&(announced as u32).to_be_bytes());
 }
 
 /// Lists of the smallest options, with runs at and past the list's end.
@@ -375,11 +398,16 @@ fn configured(r: &mut Random, out: &mut Vec<u8>) {
 fn noise(r: &mut Random, out: &mut Vec<u8>) {
     let length = r.below(64);
     r.bytes(length, out);
-    if r.once_in(4) {
-        return;
+    match r.below(16) {
+        0..=3 => return,
+        4 => return announcing_too_much(r, out),
+        _ => {}
     }
     let announced = 16 * r.below(3);
-    for (at, length) in [(4, announced), (8 + announced, out.len().saturating_sub(12 + announced))] {
+    for (at, length) in [
+        (4, announced),
+        (8 + announced, out.len().saturating_sub(12 + announced)),
+    ] {
         if at + 4 <= out.len() {
             out[at..at + 4].copy_from_slice(&(length as u32).to_be_bytes());
         }

@@ -118,9 +118,7 @@ pub fn read_message(message: &[u8], discard: bool) -> Option<Result<SdSlice<'_>,
     if header.slice().len() != message.len() {
         return None;
     }
-    Some(
-        SdSlice::from_someip_with_flag(&header, discard).map_err(|error| slice_error(&error)),
-    )
+    Some(SdSlice::from_someip_with_flag(&header, discard).map_err(|error| slice_error(&error)))
 }
 
 /// The answer to an accepted payload: the three flags, the numbers of entries and of options.

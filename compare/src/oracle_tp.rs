@@ -117,9 +117,8 @@ impl Stream {
         let mut next = || words.next().expect("the crate hashes all fields");
         let length = next() as usize;
         let count = next() as usize;
-        let mut ranges: Vec<(u32, u32)> = (0..count)
-            .map(|_| (next() as u32, next() as u32))
-            .collect();
+        let mut ranges: Vec<(u32, u32)> =
+            (0..count).map(|_| (next() as u32, next() as u32)).collect();
         ranges.sort_unstable();
         let end = (next() == 1).then(|| next() as u32);
         tape.bytes.truncate(length);
@@ -129,6 +128,11 @@ impl Stream {
             data: tape.bytes,
         }
     }
+}
+
+/// Whether the crate accepts the front of the bytes as a message and ignores the rest; 30 is then document 01's alone.
+pub fn has_bytes_behind(bytes: &[u8]) -> bool {
+    SomeipMsgSlice::from_slice(bytes).is_ok_and(|message| message.slice().len() != bytes.len())
 }
 
 /// The bytes as a segment that the crate takes whole.
@@ -181,14 +185,23 @@ mod tests {
         assert_eq!(stream.seen().data.len(), 48);
 
         let mut stream = Stream::begin(64);
-        assert_eq!(stream.consume(&plain(0, true, 15)), Answer::new(32, &[0, 15]));
+        assert_eq!(
+            stream.consume(&plain(0, true, 15)),
+            Answer::new(32, &[0, 15])
+        );
         assert!(stream.consume(&plain(0, false, 15)).accepted());
         let mut stream = Stream::begin(64);
         assert!(stream.consume(&plain(0, false, 16)).accepted());
-        assert_eq!(stream.consume(&plain(16, true, 16)), Answer::new(33, &[16, 32]));
+        assert_eq!(
+            stream.consume(&plain(16, true, 16)),
+            Answer::new(33, &[16, 32])
+        );
         let mut stream = Stream::begin(32);
         assert!(stream.consume(&plain(32, true, 0)).accepted());
-        assert_eq!(stream.consume(&plain(48, true, 0)), Answer::new(31, &[48, 0, 32]));
+        assert_eq!(
+            stream.consume(&plain(48, true, 0)),
+            Answer::new(31, &[48, 0, 32])
+        );
         stream.clear();
         assert!(stream.consume(&plain(0, false, 0)).accepted());
         assert_eq!(stream.take().1.unwrap()[4..8], [0, 0, 0, 8]);

@@ -67,7 +67,8 @@ impl<'a, P: Calls> Sd<'a, P> {
     /// A message with SD header; what `SomeipMsgSlice` does not accept whole is left out.
     pub fn message(&mut self, message: &[u8], discard: bool, slots: usize) {
         let Some(reading) = oracle::read_message(message, discard) else {
-            self.tally.leave_out("messages that SomeipMsgSlice does not accept whole");
+            self.tally
+                .leave_out("messages that SomeipMsgSlice does not accept whole");
             return;
         };
         self.tally.input("messages with SD header");
@@ -76,7 +77,15 @@ impl<'a, P: Calls> Sd<'a, P> {
             .port
             .read_message(message, &mut self.table[..slots], discard);
         let payload = &message[16..];
-        self.reading("read_message", message, payload, discard, slots, got, reading);
+        self.reading(
+            "read_message",
+            message,
+            payload,
+            discard,
+            slots,
+            got,
+            reading,
+        );
     }
 
     /// Fewer than 16 bytes of a message: the crate cannot be asked.
@@ -117,7 +126,11 @@ impl<'a, P: Calls> Sd<'a, P> {
         };
         self.tally.answer(want);
         self.tally.same(call, &want, &got, name);
-        self.table_is(reading.as_ref().ok().map(|sd| sd.options_index()), slots, input);
+        self.table_is(
+            reading.as_ref().ok().map(|sd| sd.options_index()),
+            slots,
+            input,
+        );
         if !(14..=19).contains(&want.number) {
             self.insides(payload, want, reading.ok(), slots);
         }
@@ -172,8 +185,9 @@ impl<'a, P: Calls> Sd<'a, P> {
         loop {
             let want = oracle::next_entry(entries, at);
             let got = self.port.next_entry(entries, at);
-            self.tally
-                .same("next_entry", &want, &got, || format!("at {at}: {}", hex(entries)));
+            self.tally.same("next_entry", &want, &got, || {
+                format!("at {at}: {}", hex(entries))
+            });
             if !want.answer.accepted() {
                 return;
             }
@@ -187,8 +201,9 @@ impl<'a, P: Calls> Sd<'a, P> {
         loop {
             let want = oracle::next_option(options, at);
             let got = self.port.next_option(options, at);
-            self.tally
-                .same("next_option", &want, &got, || format!("at {at}: {}", hex(options)));
+            self.tally.same("next_option", &want, &got, || {
+                format!("at {at}: {}", hex(options))
+            });
             if want == NOTHING {
                 return;
             }
@@ -228,7 +243,10 @@ impl<'a, P: Calls> Sd<'a, P> {
                 .port
                 .next_of_run(options, table, index.len(), next, left);
             self.tally.same("next_of_run", &want, &got, || {
-                format!("next {next}, {left} left of {start}, {count}: {}", hex(options))
+                format!(
+                    "next {next}, {left} left of {start}, {count}: {}",
+                    hex(options)
+                )
             });
             next += 1;
             left = left.saturating_sub(1);
@@ -271,7 +289,8 @@ impl<'a, P: Calls> Sd<'a, P> {
         let got = self.port.lookup(options, table, count, ordinal);
         self.tally.same("lookup in any table", &want, &got, name);
         let got = self.port.next_of_run(options, table, count, ordinal, 1);
-        self.tally.same("next_of_run in any table", &want, &got, name);
+        self.tally
+            .same("next_of_run in any table", &want, &got, name);
     }
 
     /// One entry alone, at the front of some bytes, and cursors beside and past the end.
@@ -281,8 +300,9 @@ impl<'a, P: Calls> Sd<'a, P> {
             let want = oracle::next_entry(bytes, at);
             let got = self.port.next_entry(bytes, at);
             self.tally.answer(want.answer);
-            self.tally
-                .same("next_entry", &want, &got, || format!("at {at}: {}", hex(bytes)));
+            self.tally.same("next_entry", &want, &got, || {
+                format!("at {at}: {}", hex(bytes))
+            });
         }
     }
 
@@ -297,8 +317,9 @@ impl<'a, P: Calls> Sd<'a, P> {
                 oracle::next_option(bytes, at),
                 self.port.next_option(bytes, at),
             );
-            self.tally
-                .same("next_option", &want, &got, || format!("at {at}: {}", hex(bytes)));
+            self.tally.same("next_option", &want, &got, || {
+                format!("at {at}: {}", hex(bytes))
+            });
         }
     }
 

@@ -78,9 +78,7 @@ impl Calls for StandIn {
 
     fn index(&self, options: &[u8], table: &mut [u16]) -> Answer {
         match oracle::index(options) {
-            Ok(index) => {
-                Self::lent(table, Some(&index), Answer::new(0, &[index.len() as u64]))
-            }
+            Ok(index) => Self::lent(table, Some(&index), Answer::new(0, &[index.len() as u64])),
             Err(answer) => Self::lent(table, None, answer),
         }
     }

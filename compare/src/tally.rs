@@ -90,7 +90,10 @@ impl Tally {
         }
         self.differences += 1;
         if self.first.len() < KEPT {
-            let text = format!("{what}\n  for  {}\n  want {want:?}\n  got  {got:?}", input());
+            let text = format!(
+                "{what}\n  for  {}\n  want {want:?}\n  got  {got:?}",
+                input()
+            );
             self.first.push(text);
         }
         false
@@ -119,7 +122,8 @@ impl Tally {
 
     pub fn print(&self) {
         self.inputs.print("inputs");
-        self.compared.print("compared without a difference, unless listed below");
+        self.compared
+            .print("compared without a difference, unless listed below");
         println!("answers of the crate:");
         for (number, count) in &self.answers {
             let name = match number {

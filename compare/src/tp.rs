@@ -93,9 +93,10 @@ impl<'a, P: Calls> Tp<'a, P> {
                 self.tally
                     .same("consume", &want, &got, || name(sequence, number));
                 if !want.accepted() {
-                    self.tally.same("state after a refusal", &held, &lent.state, || {
-                        name(sequence, number)
-                    });
+                    self.tally
+                        .same("state after a refusal", &held, &lent.state, || {
+                            name(sequence, number)
+                        });
                 }
             }
             Step::Take => {
@@ -198,7 +199,8 @@ impl<'a, P: Calls> Tp<'a, P> {
             let mut tried = stream.clone();
             let mut want = tried.consume(segment);
             if want.accepted() {
-                let offset = u32::from_be_bytes([segment[16], segment[17], segment[18], segment[19] & 0xf0]);
+                let offset =
+                    u32::from_be_bytes([segment[16], segment[17], segment[18], segment[19] & 0xf0]);
                 let needed = 16 + offset as usize + segment.len() - 20;
                 if short < needed {
                     want = Answer::new(34, &[needed as u64]);
@@ -211,9 +213,10 @@ impl<'a, P: Calls> Tp<'a, P> {
                 .port
                 .consume(&mut lent.state, segment, &mut lent.buffer);
             self.tally.document(want.number);
-            self.tally.same("consume in a short buffer", &want, &got, || {
-                name(sequence, number)
-            });
+            self.tally
+                .same("consume in a short buffer", &want, &got, || {
+                    name(sequence, number)
+                });
             if want.accepted() {
                 stream = tried;
             } else {
@@ -238,9 +241,13 @@ impl<'a, P: Calls> Tp<'a, P> {
         let got = self.port.take(&lent.state, &mut lent.buffer[..room]);
         self.tally.document(want.number);
         self.tally
-            .same("take from a short buffer", &want, &got, || name(sequence, 0));
+            .same("take from a short buffer", &want, &got, || {
+                name(sequence, 0)
+            });
         self.tally
-            .same("buffer as it was", &bytes, &lent.buffer, || name(sequence, 0));
+            .same("buffer as it was", &bytes, &lent.buffer, || {
+                name(sequence, 0)
+            });
     }
 
     /// Beginning under any limit: 36 above 65,520, and the state then has limit 0; no range and no end either way.

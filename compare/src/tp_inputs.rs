@@ -98,7 +98,11 @@ fn cut_message(r: &mut Random, total: usize, most: usize, steps: &mut Vec<Step>)
             all.push((at, more, length));
         }
         if r.once_in(8) {
-            let longer = if more { length + 16 } else { length + r.below(17) };
+            let longer = if more {
+                length + 16
+            } else {
+                length + r.below(17)
+            };
             all.push((at.saturating_sub(16), more, longer));
         }
         if r.once_in(12) {
@@ -271,12 +275,54 @@ pub fn nth_sequence(length: usize, n: usize) -> Sequence {
 
 /// The cut messages whose every order is tried: the pieces' offsets, whether more follow, and lengths.
 pub const ORDERED: [&[(u32, bool, usize)]; 6] = [
-    &[(0, true, 16), (16, true, 16), (32, true, 16), (48, true, 16), (64, true, 16), (80, false, 7)],
-    &[(0, true, 32), (16, true, 32), (32, true, 32), (48, true, 32), (64, true, 32), (80, false, 16)],
-    &[(0, true, 16), (32, true, 16), (64, true, 16), (16, true, 16), (48, true, 16), (80, false, 0)],
-    &[(0, true, 0), (0, true, 16), (16, true, 0), (16, false, 16), (32, true, 0), (32, false, 0)],
-    &[(0, true, 16), (16, false, 16), (16, false, 20), (32, false, 16), (0, true, 48), (16, true, 16)],
-    &[(0, false, 96), (0, true, 96), (16, true, 64), (32, true, 32), (96, false, 0), (80, false, 16)],
+    &[
+        (0, true, 16),
+        (16, true, 16),
+        (32, true, 16),
+        (48, true, 16),
+        (64, true, 16),
+        (80, false, 7),
+    ],
+    &[
+        (0, true, 32),
+        (16, true, 32),
+        (32, true, 32),
+        (48, true, 32),
+        (64, true, 32),
+        (80, false, 16),
+    ],
+    &[
+        (0, true, 16),
+        (32, true, 16),
+        (64, true, 16),
+        (16, true, 16),
+        (48, true, 16),
+        (80, false, 0),
+    ],
+    &[
+        (0, true, 0),
+        (0, true, 16),
+        (16, true, 0),
+        (16, false, 16),
+        (32, true, 0),
+        (32, false, 0),
+    ],
+    &[
+        (0, true, 16),
+        (16, false, 16),
+        (16, false, 20),
+        (32, false, 16),
+        (0, true, 48),
+        (16, true, 16),
+    ],
+    &[
+        (0, false, 96),
+        (0, true, 96),
+        (16, true, 64),
+        (32, true, 32),
+        (96, false, 0),
+        (80, false, 16),
+    ],
 ];
 
 /// All orders of `n` things, as lists of places.

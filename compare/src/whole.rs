@@ -2,34 +2,12 @@
 
 use crate::calls::{Calls, SLOTS};
 use crate::inputs;
+use crate::plan::{family, Plan};
 use crate::random::Random;
 use crate::sd::Sd;
 use crate::tally::Tally;
 use crate::tp::Tp;
 use crate::tp_inputs;
-
-/// How much is compared.
-#[derive(Clone, Copy)]
-pub struct Plan {
-    pub seed: u64,
-    /// Seeded payloads and messages.
-    pub payloads: u64,
-    /// Seeded sequences of segments.
-    pub sequences: u64,
-    /// Whether all 16,777,216 strings of three bytes are among the exhaustive ones.
-    pub long_exhaustive: bool,
-    pub threads: usize,
-}
-
-/// The families of a run's generator; an input's number within one makes it again.
-pub mod family {
-    pub const PAYLOAD: u64 = 1;
-    pub const INDEX: u64 = 2;
-    pub const ALONE: u64 = 3;
-    pub const FOREIGN: u64 = 4;
-    pub const SEQUENCE: u64 = 5;
-    pub const SHORT: u64 = 6;
-}
 
 /// Does `count` pieces of work in blocks, on all threads.
 fn spread<W>(threads: usize, count: u64, work: W) -> Tally
@@ -183,7 +161,10 @@ fn with_tp<P: Calls>(port: &P, plan: &Plan, count: u64, one: fn(&mut Tp<P>, u64,
 fn all_strings<P: Calls>(port: &P, plan: &Plan) -> Tally {
     let bytes: Vec<u8> = (0..=255).collect();
     let mut lists = vec![(&bytes[..], 0..=2)];
-    lists.push((&inputs::TELLING, 3..=if plan.long_exhaustive { 6 } else { 5 }));
+    lists.push((
+        &inputs::TELLING,
+        3..=if plan.long_exhaustive { 6 } else { 5 },
+    ));
     if plan.long_exhaustive {
         lists.push((&bytes[..], 3..=3));
     }
@@ -285,7 +266,10 @@ mod tests {
 
     #[test]
     fn the_stand_in_agrees() {
-        for tally in [service_discovery(&StandIn, &SMALL), streams(&StandIn, &SMALL)] {
+        for tally in [
+            service_discovery(&StandIn, &SMALL),
+            streams(&StandIn, &SMALL),
+        ] {
             assert_eq!(tally.differences, 0, "{}", tally.first.join("\n"));
             assert!(tally.compared.total() > 100_000);
         }
@@ -296,7 +280,11 @@ mod tests {
     fn every_number_comes_up() {
         let mut tally = service_discovery(&StandIn, &SMALL);
         tally.add(streams(&StandIn, &SMALL));
-        for number in (0..=8).chain(10..=20).chain([31, 32, 33, 37]).chain(91..=96) {
+        for number in (0..=8)
+            .chain(10..=20)
+            .chain([31, 32, 33, 37])
+            .chain(91..=96)
+        {
             assert!(tally.answers.contains_key(&number), "{number}");
         }
         for number in [21, 22, 30, 34, 35, 36, 38] {
