@@ -15,8 +15,10 @@ const PASSES: usize = 41;
 
 // ---- payloads in recorded style
 
+type Maker = fn(&mut Random) -> Vec<u8>;
+
 /// The kinds of payload, each with its share in a hundred.
-const KINDS: [(&str, usize, fn(&mut Random) -> Vec<u8>); 5] = [
+const KINDS: [(&str, usize, Maker); 5] = [
     ("small offers", 40, small_offer),
     ("subscribes", 25, subscribe),
     ("configuration", 15, configuration),

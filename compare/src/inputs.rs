@@ -765,9 +765,7 @@ mod tests {
                 }
             }
         }
-        for number in 1..=12 {
-            assert!(seen[number], "{number}");
-        }
+        assert_eq!(seen[1..=12], [true; 12]);
         assert_eq!(strings[1..], [true; 6]);
     }
 

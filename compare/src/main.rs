@@ -34,7 +34,7 @@ use std::process::ExitCode;
 
 const USAGE: &str = "\
 compare [--quick] [--count N] [--sequences N] [--seed S] [--threads N]
-        compare; N seeded payloads and messages (5,000,000) and N seeded sequences of segments (500,000), beside the exhaustive ones
+        compare; N seeded payloads and messages (5,100,000) and N seeded sequences of segments (500,000), beside the exhaustive ones
 compare --sabotage      a fault at a time in the port: each must be noticed
 compare --bench         speed beside the crate
 compare --record DIR    write the crate's answers for replay; needs no port
@@ -68,7 +68,7 @@ fn arguments(words: impl Iterator<Item = String>) -> Result<(Task, Plan), String
     let mut task = Task::Compare;
     let mut plan = Plan {
         seed: 1,
-        payloads: 5_000_000,
+        payloads: 5_100_000,
         sequences: 500_000,
         long_exhaustive: true,
         threads: std::thread::available_parallelism().map_or(1, |n| n.get()),

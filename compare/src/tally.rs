@@ -21,13 +21,9 @@ impl Counts {
         }
     }
 
+    #[cfg(test)]
     pub fn total(&self) -> u64 {
         self.0.iter().map(|(_, count)| count).sum()
-    }
-
-    pub fn of(&self, name: &str) -> u64 {
-        let named = self.0.iter().filter(|(known, _)| *known == name);
-        named.map(|(_, count)| count).sum()
     }
 
     fn print(&self, title: &str) {

@@ -1,9 +1,12 @@
 //! The comparison of one stream: what the port answers, holds and writes after each step, beside the crate's `TpBuf`.
 
 use crate::calls::{Answer, Calls, MOST_LIMIT, MOST_RANGES, WORDS};
-use crate::oracle_tp::{Seen, Stream};
+use crate::oracle_tp::{has_bytes_behind, Seen, Stream};
 use crate::tally::{hex, Tally};
 use crate::tp_inputs::{Sequence, Step};
+
+/// A way to damage a state.
+type Spoil = fn(&mut [u32; WORDS]);
 
 /// A stream of the port: its state and the lent buffer.
 struct Lent {
@@ -134,7 +137,7 @@ impl<'a, P: Calls> Tp<'a, P> {
             }
         }
         let answer = stream.consume(segment);
-        if answer.number == 30 {
+        if has_bytes_behind(segment) {
             self.tally.document(30);
         } else {
             self.tally.answer(answer);
@@ -270,7 +273,7 @@ impl<'a, P: Calls> Tp<'a, P> {
     /// The state damaged in each way that document 01 lists: 38, nothing written; and too few words.
     fn malformed(&mut self, lent: &Lent, sequence: &Sequence) {
         let limit = lent.state[0];
-        let damage: [(&str, fn(&mut [u32; WORDS])); 7] = [
+        let damage: [(&str, Spoil); 7] = [
             ("more than 32 ranges", |s| s[1] = 33),
             ("a range that ends before its start", |s| {
                 s[1] = 1;

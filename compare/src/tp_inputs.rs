@@ -140,7 +140,7 @@ fn wild(r: &mut Random, limit: usize, steps: &mut Vec<Step>) {
         };
         steps.push(Step::Segment(random_segment(r, offset, more, length)));
         match r.below(24) {
-            0 | 1 | 2 => steps.push(Step::Take),
+            0..=2 => steps.push(Step::Take),
             3 => steps.push(Step::Clear),
             4 | 5 => steps.push(Step::Segment(not_a_segment(r))),
             _ => {}
