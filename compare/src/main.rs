@@ -28,7 +28,7 @@ mod tp_inputs;
 #[cfg(any(feature = "port", test))]
 mod whole;
 
-use plan::Plan;
+use plan::{Exhaustive, Plan};
 use std::path::PathBuf;
 use std::process::ExitCode;
 
@@ -70,7 +70,7 @@ fn arguments(words: impl Iterator<Item = String>) -> Result<(Task, Plan), String
         seed: 1,
         payloads: 5_100_000,
         sequences: 500_000,
-        long_exhaustive: true,
+        exhaustive: Exhaustive::Long,
         threads: std::thread::available_parallelism().map_or(1, |n| n.get()),
     };
     let mut words = words;
@@ -85,7 +85,7 @@ fn arguments(words: impl Iterator<Item = String>) -> Result<(Task, Plan), String
             "--quick" => {
                 plan.payloads = 200_000;
                 plan.sequences = 20_000;
-                plan.long_exhaustive = false;
+                plan.exhaustive = Exhaustive::Short;
             }
             "--count" => plan.payloads = number(value()?)?,
             "--sequences" => plan.sequences = number(value()?)?,
@@ -112,7 +112,7 @@ fn with_port(task: Task, mut plan: Plan) -> ExitCode {
         Task::Sabotage => {
             plan.payloads = plan.payloads.min(20_000);
             plan.sequences = plan.sequences.min(5_000);
-            plan.long_exhaustive = false;
+            plan.exhaustive = Exhaustive::None;
             match sabotage::run(&port::Hub, &plan) {
                 0 => ExitCode::SUCCESS,
                 _ => ExitCode::FAILURE,
@@ -133,13 +133,14 @@ fn compare(plan: &Plan) -> ExitCode {
         plan.seed, plan.payloads, plan.sequences, plan.threads
     );
     let mut differences = 0;
-    let sides: [(&str, fn(&port::Hub, &Plan) -> tally::Tally); 2] = [
-        ("service discovery", whole::service_discovery),
-        ("streams of segments", whole::streams),
-    ];
-    for (name, side) in sides {
+    for discovery in [true, false] {
         let start = std::time::Instant::now();
-        let tally = side(&port::Hub, plan);
+        let (name, tally) = if discovery {
+            let tally = whole::service_discovery(&port::Hub, plan);
+            ("service discovery", tally)
+        } else {
+            ("streams of segments", whole::streams(&port::Hub, plan))
+        };
         println!("\n== {name}, {:.0} s ==", start.elapsed().as_secs_f64());
         tally.print();
         differences += tally.differences;

@@ -8,9 +8,18 @@ pub struct Plan {
     pub payloads: u64,
     /// Seeded sequences of segments.
     pub sequences: u64,
-    /// Whether all 16,777,216 strings of three bytes are among the exhaustive ones.
-    pub long_exhaustive: bool,
+    pub exhaustive: Exhaustive,
     pub threads: usize,
+}
+
+/// Which of the exhaustive inputs are compared beside the seeded ones.
+#[derive(Clone, Copy, PartialEq, Eq, PartialOrd, Ord)]
+pub enum Exhaustive {
+    None,
+    /// Without the longest strings and sequences.
+    Short,
+    /// All, among them the 16,777,216 strings of three bytes and the 331,776 sequences of four segments.
+    Long,
 }
 
 /// The families of a run's generator; an input's number within one makes it again.

@@ -294,6 +294,7 @@ pub fn run<P: Calls>(port: &P, plan: &Plan) -> usize {
 #[cfg(test)]
 mod tests {
     use super::*;
+    use crate::plan::Exhaustive;
     use crate::standin::StandIn;
 
     #[test]
@@ -302,7 +303,7 @@ mod tests {
             seed: 1,
             payloads: 20_000,
             sequences: 5_000,
-            long_exhaustive: false,
+            exhaustive: Exhaustive::None,
             threads: 2,
         };
         assert_eq!(run(&StandIn, &plan), 0);

@@ -2,7 +2,7 @@
 
 use crate::calls::{Calls, SLOTS};
 use crate::inputs;
-use crate::plan::{family, Plan};
+use crate::plan::{family, Exhaustive, Plan};
 use crate::random::Random;
 use crate::sd::Sd;
 use crate::tally::Tally;
@@ -163,9 +163,13 @@ fn all_strings<P: Calls>(port: &P, plan: &Plan) -> Tally {
     let mut lists = vec![(&bytes[..], 0..=2)];
     lists.push((
         &inputs::TELLING,
-        3..=if plan.long_exhaustive { 6 } else { 5 },
+        3..=if plan.exhaustive == Exhaustive::Long {
+            6
+        } else {
+            5
+        },
     ));
-    if plan.long_exhaustive {
+    if plan.exhaustive == Exhaustive::Long {
         lists.push((&bytes[..], 3..=3));
     }
     let mut whole = Tally::default();
@@ -188,7 +192,11 @@ fn all_strings<P: Calls>(port: &P, plan: &Plan) -> Tally {
 /// All short sequences over a small set of segments, and every order of the cut messages.
 fn all_sequences<P: Calls>(port: &P, plan: &Plan) -> Tally {
     let mut whole = Tally::default();
-    for length in 0..=if plan.long_exhaustive { 4 } else { 3 } {
+    for length in 0..=if plan.exhaustive == Exhaustive::Long {
+        4
+    } else {
+        3
+    } {
         let count = (tp_inputs::LETTERS as u64).pow(length as u32);
         whole.add(spread(plan.threads, count, |block| {
             let mut tp = Tp::new(port);
@@ -215,39 +223,40 @@ fn all_sequences<P: Calls>(port: &P, plan: &Plan) -> Tally {
     whole
 }
 
+/// Every short option and every short entry.
+fn all_short<P: Calls>(port: &P, plan: &Plan) -> Tally {
+    let (options, entries) = (inputs::SHORT_OPTIONS, inputs::SHORT_ENTRIES);
+    let mut whole = with_sd(port, plan, options as u64, |sd, _, number, out| {
+        inputs::nth_option(number as usize, out);
+        sd.option(out);
+    });
+    whole.add(with_sd(port, plan, entries as u64, |sd, _, number, out| {
+        inputs::nth_entry(number as usize, out);
+        sd.entry(out);
+    }));
+    whole
+}
+
 /// The service discovery side.
 pub fn service_discovery<P: Calls>(port: &P, plan: &Plan) -> Tally {
-    let mut whole = all_strings(port, plan);
-    whole.add(with_sd(
-        port,
-        plan,
-        inputs::SHORT_OPTIONS as u64,
-        |sd, _, number, out| {
-            inputs::nth_option(number as usize, out);
-            sd.option(out);
-        },
-    ));
-    whole.add(with_sd(
-        port,
-        plan,
-        inputs::SHORT_ENTRIES as u64,
-        |sd, _, number, out| {
-            inputs::nth_entry(number as usize, out);
-            sd.entry(out);
-        },
-    ));
-    whole.add(with_sd(port, plan, plan.payloads, one_payload));
+    let mut whole = with_sd(port, plan, plan.payloads, one_payload);
     whole.add(with_sd(port, plan, plan.payloads / 10, one_index));
     whole.add(with_sd(port, plan, plan.payloads / 10, one_alone));
     whole.add(with_sd(port, plan, plan.payloads / 50, one_foreign));
+    if plan.exhaustive > Exhaustive::None {
+        whole.add(all_strings(port, plan));
+        whole.add(all_short(port, plan));
+    }
     whole
 }
 
 /// The side of the streams.
 pub fn streams<P: Calls>(port: &P, plan: &Plan) -> Tally {
-    let mut whole = all_sequences(port, plan);
-    whole.add(with_tp(port, plan, plan.sequences, one_sequence));
+    let mut whole = with_tp(port, plan, plan.sequences, one_sequence);
     whole.add(with_tp(port, plan, plan.sequences / 20, one_short));
+    if plan.exhaustive > Exhaustive::None {
+        whole.add(all_sequences(port, plan));
+    }
     whole
 }
 
@@ -260,7 +269,7 @@ mod tests {
         seed: 1,
         payloads: 50_000,
         sequences: 10_000,
-        long_exhaustive: false,
+        exhaustive: Exhaustive::Short,
         threads: 2,
     };
 
