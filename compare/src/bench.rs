@@ -1,0 +1,335 @@
+//! The first figures of speed: reading with index beside `SdSlice::from_slice`, and joining beside `TpBuf`. Both sides in one process, in
+//! alternating passes, medians. A time says little of another machine; the ratio is what counts.
+
+use crate::calls::{Calls, MOST_LIMIT, SLOTS, WORDS};
+use crate::plan::family;
+use crate::random::Random;
+use crate::tp_inputs::segment;
+use someip_parse::sd::SdSlice;
+use someip_parse::{SomeipMsgSlice, TpBuf, TpBufConfig};
+use std::hint::black_box;
+use std::time::Instant;
+
+const PAYLOADS: usize = 10_000;
+const PASSES: usize = 41;
+
+// ---- payloads in recorded style
+
+type Maker = fn(&mut Random) -> Vec<u8>;
+
+/// The kinds of payload, each with its share in a hundred.
+const KINDS: [(&str, usize, Maker); 5] = [
+    ("small offers", 40, small_offer),
+    ("subscribes", 25, subscribe),
+    ("configuration", 15, configuration),
+    ("many small options", 10, many_small),
+    ("refused", 10, refused),
+];
+
+fn push_ipv4(r: &mut Random, code: u8, out: &mut Vec<u8>) {
+    out.extend_from_slice(&[0, 9, code, 0, 192, 168, r.byte(), r.byte(), 0]);
+    out.push(r.pick(&[6, 17]));
+    out.extend_from_slice(&(r.next() as u16).to_be_bytes());
+}
+
+fn push_ipv6(r: &mut Random, code: u8, out: &mut Vec<u8>) {
+    out.extend_from_slice(&[0, 21, code, 0]);
+    r.bytes(16, out);
+    out.extend_from_slice(&[0, 17]);
+    out.extend_from_slice(&(r.next() as u16).to_be_bytes());
+}
+
+/// A string of `items` items: a key of 3 to 10 letters and a value of 0 to 20 bytes.
+fn push_configuration(r: &mut Random, items: usize, out: &mut Vec<u8>) {
+    let mut string = Vec::new();
+    for _ in 0..items {
+        let (key, value) = (r.between(3, 10), r.below(21));
+        string.push((key + 1 + value) as u8);
+        string.extend((0..key).map(|_| r.pick(b"abcdefghijklmnopqrstuvwxyz")));
+        string.push(b'=');
+        string.extend((0..value).map(|_| r.pick(b"abcdefghijklmnopqrstuvwxyz0123456789./")));
+    }
+    string.push(0);
+    out.extend_from_slice(&(1 + string.len() as u16).to_be_bytes());
+    out.extend_from_slice(&[1, 0]);
+    out.extend_from_slice(&string);
+}
+
+fn push_entry(r: &mut Random, code: u8, start: usize, count: usize, out: &mut Vec<u8>) {
+    out.extend_from_slice(&[code, start as u8, 0, (count as u8) << 4]);
+    r.bytes(12, out);
+}
+
+fn lay(entries: &[u8], options: &[u8]) -> Vec<u8> {
+    let mut out = vec![0xc0, 0, 0, 0];
+    out.extend_from_slice(&(entries.len() as u32).to_be_bytes());
+    out.extend_from_slice(entries);
+    out.extend_from_slice(&(options.len() as u32).to_be_bytes());
+    out.extend_from_slice(options);
+    out
+}
+
+/// No entry at all one time in twenty; else 1 to 4 offers, each with one IPv4 endpoint (UDP or TCP) of its own, at times two.
+fn small_offer(r: &mut Random) -> Vec<u8> {
+    let (mut entries, mut options) = (Vec::new(), Vec::new());
+    if r.once_in(20) {
+        return lay(&entries, &options);
+    }
+    let mut next = 0;
+    for _ in 0..r.between(1, 4) {
+        let count = if r.once_in(3) { 2 } else { 1 };
+        for _ in 0..count {
+            push_ipv4(r, 0x04, &mut options);
+        }
+        push_entry(r, 0x01, next, count, &mut entries);
+        next += count;
+    }
+    lay(&entries, &options)
+}
+
+/// 1 to 12 subscribes or acknowledgements over 1 to 3 endpoints, one in four of them IPv6, acknowledgements with a multicast address.
+fn subscribe(r: &mut Random) -> Vec<u8> {
+    let (mut entries, mut options) = (Vec::new(), Vec::new());
+    let acknowledge = r.once_in(2);
+    let endpoints = r.between(1, 3);
+    for _ in 0..endpoints {
+        match (acknowledge, r.once_in(4)) {
+            (false, false) => push_ipv4(r, 0x04, &mut options),
+            (false, true) => push_ipv6(r, 0x06, &mut options),
+            (true, false) => push_ipv4(r, 0x14, &mut options),
+            (true, true) => push_ipv6(r, 0x16, &mut options),
+        }
+    }
+    for _ in 0..r.between(1, 12) {
+        let code = if acknowledge { 0x07 } else { 0x06 };
+        let start = r.below(endpoints);
+        push_entry(r, code, start, 1, &mut entries);
+    }
+    lay(&entries, &options)
+}
+
+/// 1 to 5 offers, each with an endpoint and a configuration option of 1 to 8 items.
+fn configuration(r: &mut Random) -> Vec<u8> {
+    let (mut entries, mut options) = (Vec::new(), Vec::new());
+    for at in 0..r.between(1, 5) {
+        push_ipv4(r, 0x04, &mut options);
+        let items = r.between(1, 8);
+        push_configuration(r, items, &mut options);
+        push_entry(r, 0x01, 2 * at, 2, &mut entries);
+    }
+    lay(&entries, &options)
+}
+
+/// 20 to 300 options of 4 to 8 bytes, half of them load balancing, over 1 to 10 entries.
+fn many_small(r: &mut Random) -> Vec<u8> {
+    let (mut entries, mut options) = (Vec::new(), Vec::new());
+    let most = r.between(80, 1220);
+    let mut count = 0;
+    while options.len() + 8 <= most {
+        if r.once_in(2) {
+            options.extend_from_slice(&[0, 5, 0x02, 0, 0, r.byte(), 0, r.byte()]);
+        } else {
+            options.extend_from_slice(&[0, 1, 0x77, 0x80]);
+        }
+        count += 1;
+    }
+    for _ in 0..r.between(1, 10) {
+        let start = r.below(count.min(240));
+        push_entry(r, 0x01, start, 1, &mut entries);
+    }
+    lay(&entries, &options)
+}
+
+/// One of the above with one fault: cut, a byte behind, an unknown entry, a run past the list, an option's length wrong, or an unknown option
+/// that must not be discarded.
+fn refused(r: &mut Random) -> Vec<u8> {
+    loop {
+        let make = KINDS[r.below(4)].2;
+        let mut payload = make(r);
+        let entries = usize::from(payload[6]) * 256 + usize::from(payload[7]);
+        let options = 12 + entries;
+        match r.below(6) {
+            0 => {
+                let some = r.below(payload.len());
+                payload.truncate(some)
+            }
+            1 => payload.push(0),
+            2 if entries > 0 => payload[8 + 16 * r.below(entries / 16)] = 0x05,
+            3 if entries > 0 => payload[9 + 16 * r.below(entries / 16)] = 250,
+            4 if payload.len() > options => payload[options + 1] ^= 2,
+            _ if payload.len() > options => payload[options + 2] = 0x55,
+            _ => {}
+        }
+        if SdSlice::from_slice(&payload).is_err() {
+            return payload;
+        }
+    }
+}
+
+// ---- timing
+
+fn median(times: &mut [f64]) -> f64 {
+    times.sort_by(f64::total_cmp);
+    times[times.len() / 2]
+}
+
+/// Nanoseconds for each of `count` pieces of work: the medians of both sides over alternating passes.
+fn beside(count: usize, mut theirs: impl FnMut(), mut ours: impl FnMut()) -> (f64, f64) {
+    let time = |work: &mut dyn FnMut()| {
+        let start = Instant::now();
+        work();
+        start.elapsed().as_nanos() as f64 / count as f64
+    };
+    let (mut first, mut second) = (Vec::new(), Vec::new());
+    for _ in 0..PASSES {
+        first.push(time(&mut theirs));
+        second.push(time(&mut ours));
+    }
+    (median(&mut first), median(&mut second))
+}
+
+fn row(name: &str, detail: &str, (theirs, ours): (f64, f64)) {
+    println!(
+        "| {name} | {detail} | {theirs:.0} | {ours:.0} | {:.2} |",
+        ours / theirs
+    );
+}
+
+/// Reading a list of payloads, the table lent afresh each time.
+fn reading<P: Calls>(port: &P, payloads: &[&Vec<u8>]) -> (f64, f64) {
+    beside(
+        payloads.len(),
+        || {
+            for payload in payloads {
+                let _ = black_box(SdSlice::from_slice(black_box(payload)));
+            }
+        },
+        || {
+            for payload in payloads {
+                let mut table = black_box([0; SLOTS]);
+                black_box(port.read(black_box(payload), &mut table, false));
+                black_box(&table);
+            }
+        },
+    )
+}
+
+/// The segments of a report of 65,520 bytes, 1,392 in each but the last.
+fn report_segments() -> Vec<Vec<u8>> {
+    let total = MOST_LIMIT as usize;
+    let payload: Vec<u8> = (0..total).map(|at| at as u8).collect();
+    (0..total)
+        .step_by(1392)
+        .map(|at| {
+            let end = total.min(at + 1392);
+            segment(at as u32, end < total, &payload[at..end])
+        })
+        .collect()
+}
+
+/// Joining one report: the same memory each time, cleared before, taken after.
+fn joining<P: Calls>(port: &P, segments: &[&Vec<u8>]) -> (f64, f64) {
+    const REPORTS: usize = 50;
+    let limit = MOST_LIMIT;
+    let config = TpBufConfig::new(limit as usize, limit).expect("the limit is small");
+    let mut theirs = TpBuf::new(config);
+    let mut state = [0; WORDS];
+    let mut buffer = vec![0; 16 + limit as usize];
+    port.begin(&mut state, limit);
+    let crate_side = || {
+        for _ in 0..REPORTS {
+            theirs.clear();
+            for segment in segments {
+                let message = SomeipMsgSlice::from_slice(black_box(segment)).expect("a segment");
+                theirs.consume_tp(message).expect("accepted");
+            }
+            black_box(theirs.try_finalize().expect("complete"));
+        }
+    };
+    let port_side = || {
+        for _ in 0..REPORTS {
+            port.clear(&mut state);
+            for segment in segments {
+                let answer = port.consume(&mut state, black_box(segment), &mut buffer);
+                assert!(answer.accepted());
+            }
+            let report = black_box(port.take(&state, &mut buffer));
+            assert!(report.accepted());
+        }
+    };
+    beside(REPORTS, crate_side, port_side)
+}
+
+pub fn run<P: Calls>(port: &P, seed: u64) {
+    let mut payloads = Vec::new();
+    for number in 0..PAYLOADS as u64 {
+        let mut r = Random::of(seed, family::BENCH, number);
+        let mut draw = r.below(100);
+        let mut kind = 0;
+        while draw >= KINDS[kind].1 {
+            draw -= KINDS[kind].1;
+            kind += 1;
+        }
+        let payload = loop {
+            let payload = KINDS[kind].2(&mut r);
+            if payload.len() <= 1400 {
+                break payload;
+            }
+        };
+        payloads.push((kind, payload));
+    }
+    println!("seed {seed}, {PAYLOADS} payloads, {PASSES} passes of each side in turn, medians\n");
+    println!("| payloads | number, mean bytes | crate, ns each | Viaductle, ns each | ratio |");
+    println!("|---|---|---|---|---|");
+    let whole: Vec<&Vec<u8>> = payloads.iter().map(|(_, payload)| payload).collect();
+    row("whole mix", &size(&whole), reading(port, &whole));
+    for (number, (name, ..)) in KINDS.iter().enumerate() {
+        let some: Vec<&Vec<u8>> = payloads
+            .iter()
+            .filter(|(kind, _)| *kind == number)
+            .map(|(_, payload)| payload)
+            .collect();
+        row(name, &size(&some), reading(port, &some));
+    }
+    let segments = report_segments();
+    let in_order: Vec<&Vec<u8>> = segments.iter().collect();
+    let odd_even: Vec<&Vec<u8>> = segments
+        .iter()
+        .step_by(2)
+        .chain(segments.iter().skip(1).step_by(2))
+        .collect();
+    let reversed: Vec<&Vec<u8>> = segments.iter().rev().collect();
+    println!("\n| joining 65,520 bytes | segments | crate, ns a report | Viaductle, ns a report | ratio |");
+    println!("|---|---|---|---|---|");
+    for (name, order) in [
+        ("in order", in_order),
+        ("every second, then the others", odd_even),
+        ("reversed", reversed),
+    ] {
+        row(name, &order.len().to_string(), joining(port, &order));
+    }
+}
+
+fn size(payloads: &[&Vec<u8>]) -> String {
+    let bytes: usize = payloads.iter().map(|payload| payload.len()).sum();
+    format!("{}, {}", payloads.len(), bytes / payloads.len().max(1))
+}
+
+#[cfg(test)]
+mod tests {
+    use super::*;
+
+    /// All kinds but the refused are accepted.
+    #[test]
+    fn kinds_are_what_they_say() {
+        for (number, (name, _, make)) in KINDS.iter().enumerate() {
+            for n in 0..500 {
+                let payload = make(&mut Random::of(1, family::BENCH, n));
+                let read = SdSlice::from_slice(&payload);
+                assert_eq!(read.is_ok(), number != 4, "{name}: {read:?}");
+            }
+        }
+        assert_eq!(KINDS.iter().map(|kind| kind.1).sum::<usize>(), 100);
+        assert_eq!(report_segments().len(), 48);
+    }
+}

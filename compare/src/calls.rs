@@ -1,0 +1,122 @@
+//! The calls that are compared, with their answers as document 01's numbers and values.
+//! `port.rs` answers them by the exported functions; `sabotage.rs` by those with a fault.
+
+/// Document 01's number, 0 for accepted, and its values in order; unused ones are 0.
+#[derive(Clone, Copy, Debug, Default, PartialEq, Eq)]
+#[repr(C)]
+pub struct Answer {
+    pub number: u64,
+    pub values: [u64; 4],
+}
+
+impl Answer {
+    /// A number with its values.
+    pub fn new(number: u64, values: &[u64]) -> Answer {
+        let mut all = [0; 4];
+        all[..values.len()].copy_from_slice(values);
+        Answer {
+            number,
+            values: all,
+        }
+    }
+
+    pub fn accepted(self) -> bool {
+        self.number == 0
+    }
+
+    /// How many values document 01 gives with this number (nothing is said of 0, which differs by call).
+    pub fn value_count(self) -> usize {
+        match self.number {
+            8 | 16 | 20 | 21 | 30 | 35 | 37 | 38 => 0,
+            1..=5 | 10 | 11 | 13..=15 | 17..=19 | 22 | 34 | 36 => 1,
+            6 | 32 | 33 => 2,
+            7 | 31 => 3,
+            9 => match self.values[0] {
+                1 => 1,
+                3 | 4 | 6 => 2,
+                _ => 4,
+            },
+            _ => 4,
+        }
+    }
+}
+
+/// No option or entry at this place.
+pub const NOTHING: Answer = Answer {
+    number: 20,
+    values: [0; 4],
+};
+
+/// One entry with all its fields; those that its kind has not are 0, and all are 0 after a refusal.
+#[derive(Clone, Copy, Debug, Default, PartialEq, Eq)]
+#[repr(C)]
+pub struct Entry {
+    pub answer: Answer,
+    pub code: u64,
+    pub start1: u64,
+    pub start2: u64,
+    pub count1: u64,
+    pub count2: u64,
+    pub service: u64,
+    pub instance: u64,
+    pub major: u64,
+    pub ttl: u64,
+    pub minor: u64,
+    pub initial_data: u64,
+    pub counter: u64,
+    pub eventgroup: u64,
+    pub reserved: u64,
+    pub spare: u64,
+}
+
+/// One option with all its fields, places counted from its first byte; those that its kind has not are 0, and all are 0 after a refusal.
+#[derive(Clone, Copy, Debug, Default, PartialEq, Eq)]
+#[repr(C)]
+pub struct Opt {
+    pub answer: Answer,
+    pub code: u64,
+    pub size: u64,
+    pub discardable: u64,
+    pub priority: u64,
+    pub weight: u64,
+    pub address_at: u64,
+    pub address_len: u64,
+    pub protocol: u64,
+    pub port: u64,
+    pub string_at: u64,
+    pub string_len: u64,
+}
+
+/// The slots of a table that a reading fills.
+pub const SLOTS: usize = 347;
+/// The words of a stream's state: limit, count of ranges, whether an end is known, the end, 32 pairs of start and end.
+pub const WORDS: usize = 68;
+pub const MOST_RANGES: usize = 32;
+pub const MOST_LIMIT: u32 = 65_520;
+
+/// One method for each exported function.
+pub trait Calls: Sync {
+    fn read(&self, payload: &[u8], table: &mut [u16], discard: bool) -> Answer;
+    fn read_message(&self, message: &[u8], table: &mut [u16], discard: bool) -> Answer;
+    fn index(&self, options: &[u8], table: &mut [u16]) -> Answer;
+    fn parts(&self, payload: &[u8]) -> Answer;
+    fn lookup(&self, options: &[u8], table: &[u16], count: usize, ordinal: usize) -> Answer;
+    fn next_option(&self, options: &[u8], at: usize) -> Answer;
+    fn next_of_run(
+        &self,
+        options: &[u8],
+        table: &[u16],
+        count: usize,
+        next: usize,
+        left: usize,
+    ) -> Answer;
+    fn string(&self, string: &[u8]) -> Answer;
+    fn next_entry(&self, entries: &[u8], at: usize) -> Entry;
+    fn read_option(&self, option: &[u8]) -> Opt;
+
+    fn begin(&self, state: &mut [u32], limit: u32) -> Answer;
+    fn consume(&self, state: &mut [u32], segment: &[u8], buffer: &mut [u8]) -> Answer;
+    fn complete(&self, state: &[u32]) -> Answer;
+    fn take(&self, state: &[u32], buffer: &mut [u8]) -> Answer;
+    fn clear(&self, state: &mut [u32]) -> Answer;
+}

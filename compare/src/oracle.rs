@@ -1,0 +1,451 @@
+//! What the crate someip_parse says, as document 01's numbers and values; one function for each call.
+//! Nothing is judged here: errors are renamed, and slices become the places where they lie.
+
+use crate::calls::{Answer, Entry, Opt, NOTHING, SLOTS};
+use someip_parse::err::{LenError, LenSource, SdError, SdOptionSliceError, SdSliceError};
+use someip_parse::sd::entries::U4;
+use someip_parse::sd::options::{self, ConfigurationOption, SdConfigurationStringError};
+use someip_parse::sd::{SdEntrySlice, SdOptionSlice, SdOptionsIndex, SdSlice};
+use someip_parse::SomeipMsgSlice;
+
+/// An error that no reading gives: it differs from every answer of the port.
+const UNEXPECTED: u64 = 99;
+
+// ---- errors
+
+fn wide(n: usize) -> u64 {
+    n as u64
+}
+
+pub fn string_error(error: &SdConfigurationStringError) -> Answer {
+    use SdConfigurationStringError::*;
+    match *error {
+        MissingTerminator => Answer::new(9, &[1]),
+        ItemLengthExceedsRemaining {
+            item_offset,
+            item_length,
+            remaining,
+        } => Answer::new(
+            9,
+            &[2, wide(item_offset), item_length.into(), wide(remaining)],
+        ),
+        TrailingDataAfterTerminator { terminator_offset } => {
+            Answer::new(9, &[3, wide(terminator_offset)])
+        }
+        EmptyKey { item_offset } => Answer::new(9, &[4, wide(item_offset)]),
+        InvalidKeyByte {
+            item_offset,
+            byte_offset,
+            value,
+        } => Answer::new(9, &[5, wide(item_offset), wide(byte_offset), value.into()]),
+        KeyContainsOnlyWhitespace { item_offset } => Answer::new(9, &[6, wide(item_offset)]),
+    }
+}
+
+fn length_error(error: &LenError) -> Answer {
+    let source = match error.len_source {
+        LenSource::Slice => 0,
+        LenSource::SdOptionLength => 1,
+        _ => UNEXPECTED,
+    };
+    Answer::new(7, &[wide(error.required_len), wide(error.len), source])
+}
+
+pub fn option_error(error: &SdOptionSliceError) -> Answer {
+    match error {
+        SdOptionSliceError::Len(error) => length_error(error),
+        SdOptionSliceError::OptionLengthZero => Answer::new(8, &[]),
+        SdOptionSliceError::ConfigurationString(error) => string_error(error),
+        SdOptionSliceError::OptionsArrayLengthTooLarge { len, .. } => {
+            Answer::new(13, &[wide(*len)])
+        }
+    }
+}
+
+pub fn slice_error(error: &SdSliceError) -> Answer {
+    let content = match error {
+        SdSliceError::UnexpectedEndOfSlice(needed) => return Answer::new(1, &[wide(*needed)]),
+        SdSliceError::Content(content) => content,
+    };
+    match content {
+        SdError::SdEntriesArrayLengthTooLarge(length) => Answer::new(2, &[(*length).into()]),
+        SdError::SdEntriesArrayLengthInvalid(length) => Answer::new(3, &[(*length).into()]),
+        SdError::SdOptionsArrayLengthTooLarge(length) => Answer::new(4, &[(*length).into()]),
+        SdError::SdPayloadLengthTooLarge(length) => Answer::new(5, &[(*length).into()]),
+        SdError::SdPayloadLengthMismatch {
+            expected_len,
+            actual_len,
+        } => Answer::new(6, &[wide(*expected_len), wide(*actual_len)]),
+        SdError::SdOption(error) => option_error(error),
+        SdError::UnknownSdOptionType(code) => Answer::new(10, &[(*code).into()]),
+        SdError::UnknownSdServiceEntryType(code) | SdError::UnknownSdEventGroupEntryType(code) => {
+            Answer::new(11, &[(*code).into()])
+        }
+        SdError::SdOptionRunOutOfBounds {
+            run,
+            start_index,
+            number_of_options,
+            options_len,
+        } => Answer::new(
+            12,
+            &[
+                (*run).into(),
+                (*start_index).into(),
+                (*number_of_options).into(),
+                wide(*options_len),
+            ],
+        ),
+        SdError::SdMessageIdInvalid(id) => Answer::new(14, &[(*id).into()]),
+        SdError::SdClientIdInvalid(id) => Answer::new(15, &[(*id).into()]),
+        SdError::SdSessionIdZero => Answer::new(16, &[]),
+        SdError::SdInterfaceVersionInvalid(version) => Answer::new(17, &[(*version).into()]),
+        SdError::SdMessageTypeInvalid(code) => Answer::new(18, &[(*code).into()]),
+        SdError::SdReturnCodeInvalid(code) => Answer::new(19, &[(*code).into()]),
+        _ => Answer::new(UNEXPECTED, &[]),
+    }
+}
+
+// ---- payload, message, index
+
+/// The reading of a payload, or its refusal.
+pub fn read(payload: &[u8], discard: bool) -> Result<SdSlice<'_>, Answer> {
+    SdSlice::from_slice_with_flag(payload, discard).map_err(|error| slice_error(&error))
+}
+
+/// The reading of a message with SD header; `None` where `SomeipMsgSlice` does not accept the message whole, and nothing is compared.
+pub fn read_message(message: &[u8], discard: bool) -> Option<Result<SdSlice<'_>, Answer>> {
+    let header = SomeipMsgSlice::from_slice(message).ok()?;
+    if header.slice().len() != message.len() {
+        return None;
+    }
+    Some(SdSlice::from_someip_with_flag(&header, discard).map_err(|error| slice_error(&error)))
+}
+
+/// The answer to an accepted payload: the three flags, the numbers of entries and of options.
+pub fn read_answer(sd: &SdSlice) -> Answer {
+    let flags = sd.flags();
+    let bits = (u64::from(flags.reboot) << 7)
+        | (u64::from(flags.unicast) << 6)
+        | (u64::from(flags.explicit_initial_data_control) << 5);
+    let entries = sd.entries_slice().len() / 16;
+    Answer::new(0, &[bits, wide(entries), wide(sd.options_index().len())])
+}
+
+/// The index over an options part, or its refusal.
+pub fn index(options: &[u8]) -> Result<SdOptionsIndex<'_>, Answer> {
+    SdOptionsIndex::from_slice(options).map_err(|error| option_error(&error))
+}
+
+/// What the 347 slots hold after an accepted reading: where the crate's own lookup finds each option, then zeros.
+pub fn fill_table(index: &SdOptionsIndex, table: &mut [u16; SLOTS]) {
+    table.fill(0);
+    for (ordinal, slot) in table.iter_mut().enumerate().take(index.len()) {
+        *slot = option_at(index, ordinal).values[1] as u16;
+    }
+}
+
+/// Where a part of `whole` begins.
+pub fn place_in(whole: &[u8], part: &[u8]) -> usize {
+    (part.as_ptr() as usize).wrapping_sub(whole.as_ptr() as usize)
+}
+
+// ---- one option
+
+/// The type byte of an option and the bytes after it.
+fn frame<'a>(option: &SdOptionSlice<'a>) -> (u8, &'a [u8]) {
+    match option {
+        SdOptionSlice::Configuration(o) => (options::CONFIGURATION_TYPE, o.slice()),
+        SdOptionSlice::LoadBalancing(o) => (options::LOAD_BALANCING_TYPE, o.slice()),
+        SdOptionSlice::Ipv4Endpoint(o) => (options::IPV4_ENDPOINT_TYPE, o.slice()),
+        SdOptionSlice::Ipv6Endpoint(o) => (options::IPV6_ENDPOINT_TYPE, o.slice()),
+        SdOptionSlice::Ipv4Multicast(o) => (options::IPV4_MULTICAST_TYPE, o.slice()),
+        SdOptionSlice::Ipv6Multicast(o) => (options::IPV6_MULTICAST_TYPE, o.slice()),
+        SdOptionSlice::Ipv4SdEndpoint(o) => (options::IPV4_SD_ENDPOINT_TYPE, o.slice()),
+        SdOptionSlice::Ipv6SdEndpoint(o) => (options::IPV6_SD_ENDPOINT_TYPE, o.slice()),
+        SdOptionSlice::Unknown(o) => (o.option_type(), o.slice()),
+    }
+}
+
+/// The answer to an option of `options`: its type, its place and the bytes that it takes.
+fn placed(options: &[u8], option: &SdOptionSlice) -> Answer {
+    let (code, body) = frame(option);
+    let at = place_in(options, body).wrapping_sub(3);
+    Answer::new(0, &[code.into(), wide(at), wide(3 + body.len())])
+}
+
+/// The crate's lookup in its own index; past the count 20.
+pub fn option_at(index: &SdOptionsIndex, ordinal: usize) -> Answer {
+    match index.get(ordinal) {
+        Some(option) => placed(index.options(), &option),
+        None => NOTHING,
+    }
+}
+
+/// Document 01's lookup in any table, with the crate's decoding of one option: the crate itself has no lent table.
+pub fn lookup_in(options: &[u8], table: &[u16], count: usize, ordinal: usize) -> Answer {
+    let misfit = Answer::new(21, &[]);
+    if ordinal >= count {
+        return NOTHING;
+    }
+    if ordinal >= SLOTS || ordinal >= table.len() {
+        return misfit;
+    }
+    let at = usize::from(table[ordinal]);
+    let Some(rest) = options.get(at..) else {
+        return misfit;
+    };
+    match SdOptionSlice::from_slice(rest) {
+        Ok((option, _)) => placed(options, &option),
+        // The string is not rescanned.
+        Err(SdOptionSliceError::ConfigurationString(_)) => {
+            let length = u64::from(u16::from_be_bytes([rest[0], rest[1]]));
+            Answer::new(0, &[rest[2].into(), wide(at), 3 + length])
+        }
+        Err(_) => misfit,
+    }
+}
+
+/// The option at `at`, as a cursor reads it.
+pub fn next_option(options: &[u8], at: usize) -> Answer {
+    if at >= options.len() {
+        return NOTHING;
+    }
+    match SdOptionSlice::from_slice(&options[at..]) {
+        Ok((option, _)) => placed(options, &option),
+        Err(error) => option_error(&error),
+    }
+}
+
+/// The crate's own run, option by option, closed by 20.
+pub fn run(index: &SdOptionsIndex, start: u8, count: u8) -> Vec<Answer> {
+    // SAFETY: the mask keeps the count in four bits.
+    let options = index.run(start, unsafe { U4::new_unchecked(count & 0x0f) });
+    let mut answers: Vec<Answer> = options
+        .map(|option| placed(index.options(), &option))
+        .collect();
+    answers.push(NOTHING);
+    answers
+}
+
+pub fn string(string: &[u8]) -> Answer {
+    match ConfigurationOption::validate_configuration_string(string) {
+        Ok(()) => Answer::default(),
+        Err(error) => string_error(&error),
+    }
+}
+
+/// The option in front of some bytes with all its fields.
+pub fn read_option(bytes: &[u8]) -> Opt {
+    let option = match SdOptionSlice::from_slice(bytes) {
+        Ok((option, _)) => option,
+        Err(error) => {
+            return Opt {
+                answer: option_error(&error),
+                ..Opt::default()
+            }
+        }
+    };
+    let (code, body) = frame(&option);
+    let mut said = Opt {
+        code: code.into(),
+        size: wide(3 + body.len()),
+        discardable: u64::from(body[0] >> 7),
+        ..Opt::default()
+    };
+    let mut addressed = |address: &[u8], protocol: u8, port: u16| {
+        said.address_at = 4;
+        said.address_len = wide(address.len());
+        said.protocol = protocol.into();
+        said.port = port.into();
+        if &bytes[4..4 + address.len()] != address {
+            said.answer.number = UNEXPECTED;
+        }
+    };
+    match option {
+        SdOptionSlice::Configuration(o) => {
+            said.string_at = wide(place_in(bytes, o.configuration_string()));
+            said.string_len = wide(o.configuration_string().len());
+            said.discardable = u64::from(o.discardable());
+        }
+        SdOptionSlice::LoadBalancing(o) => {
+            said.priority = o.priority().into();
+            said.weight = o.weight().into();
+            said.discardable = u64::from(o.discardable());
+        }
+        SdOptionSlice::Ipv4Endpoint(o) => {
+            addressed(&o.ipv4_address(), o.transport_protocol().into(), o.port())
+        }
+        SdOptionSlice::Ipv4Multicast(o) => {
+            addressed(&o.ipv4_address(), o.transport_protocol().into(), o.port())
+        }
+        SdOptionSlice::Ipv4SdEndpoint(o) => {
+            addressed(&o.ipv4_address(), o.transport_protocol().into(), o.port())
+        }
+        SdOptionSlice::Ipv6Endpoint(o) => {
+            addressed(&o.ipv6_address(), o.transport_protocol().into(), o.port())
+        }
+        SdOptionSlice::Ipv6Multicast(o) => {
+            addressed(&o.ipv6_address(), o.transport_protocol().into(), o.port())
+        }
+        SdOptionSlice::Ipv6SdEndpoint(o) => {
+            addressed(&o.ipv6_address(), o.transport_protocol().into(), o.port())
+        }
+        SdOptionSlice::Unknown(o) => said.discardable = u64::from(o.discardable()),
+    }
+    said
+}
+
+// ---- one entry
+
+/// The entry at `at`, as a cursor reads it, with all its fields.
+pub fn next_entry(entries: &[u8], at: usize) -> Entry {
+    let refused = |answer| Entry {
+        answer,
+        ..Entry::default()
+    };
+    if at >= entries.len() {
+        return refused(NOTHING);
+    }
+    match SdEntrySlice::from_slice(&entries[at..]) {
+        Ok(entry) => entry_fields(&entry),
+        Err(error) => refused(slice_error(&error)),
+    }
+}
+
+fn entry_fields(entry: &SdEntrySlice) -> Entry {
+    let mut said = Entry {
+        code: entry.slice()[0].into(),
+        start1: entry.start_index_options_1().into(),
+        start2: entry.start_index_options_2().into(),
+        count1: entry.number_of_options_1().value().into(),
+        count2: entry.number_of_options_2().value().into(),
+        service: entry.service_id().into(),
+        instance: entry.instance_id().into(),
+        major: entry.major_version().into(),
+        ttl: entry.ttl().value().into(),
+        ..Entry::default()
+    };
+    match entry {
+        SdEntrySlice::Service(service) => said.minor = service.minor_version().into(),
+        SdEntrySlice::Eventgroup(group) => {
+            said.initial_data = u64::from(group.initial_data_requested());
+            said.counter = group.counter().value().into();
+            said.eventgroup = group.eventgroup_id().into();
+            // The crate has no accessor for these two; they are what lies between the others.
+            said.reserved = group.slice()[12].into();
+            said.spare = u64::from(group.slice()[13] >> 4 & 0x07);
+        }
+    }
+    said
+}
+
+#[cfg(test)]
+mod tests {
+    use super::*;
+
+    fn hex(text: &str) -> Vec<u8> {
+        let digits: Vec<u8> = text.bytes().filter(|b| *b != b' ').collect();
+        digits
+            .chunks(2)
+            .map(|pair| u8::from_str_radix(std::str::from_utf8(pair).unwrap(), 16).unwrap())
+            .collect()
+    }
+
+    fn said(payload: &[u8], discard: bool) -> Answer {
+        match read(payload, discard) {
+            Ok(sd) => read_answer(&sd),
+            Err(answer) => answer,
+        }
+    }
+
+    /// Document 01, 'Both sides of each line': payloads.
+    #[test]
+    fn payloads_of_document_01() {
+        assert_eq!(said(&[0; 12], false), Answer::new(0, &[]));
+        assert_eq!(said(&[0; 11], false), Answer::new(1, &[12]));
+        assert_eq!(said(&[0; 13], false), Answer::new(6, &[12, 13]));
+        let mut short = [0; 12];
+        short[7] = 17;
+        assert_eq!(said(&short, false), Answer::new(3, &[17]));
+        short[7] = 16;
+        assert_eq!(said(&short, false), Answer::new(1, &[28]));
+        let mut large = [0; 28];
+        large[7] = 16;
+        large[26..].copy_from_slice(&1388u16.to_be_bytes());
+        assert_eq!(said(&large, false), Answer::new(5, &[1416]));
+        let mut whole = hex(
+            "80000000 00000010 01000010 12345678 01000E10 01000000 0000000C 00090400 C0A80101 00061F90",
+        );
+        assert_eq!(said(&whole, false), Answer::new(0, &[0x80, 1, 1]));
+        whole[9] = 1;
+        assert_eq!(said(&whole, false), Answer::new(12, &[1, 1, 1, 1]));
+        whole[9] = 200;
+        whole[11] = 0;
+        assert_eq!(said(&whole, false), Answer::new(0, &[0x80, 1, 1]));
+        let unknown = |last: u8| [&[0u8; 11][..], &[4, 0, 1, 0x77, last]].concat();
+        assert_eq!(said(&unknown(0x80), false), Answer::new(0, &[0, 0, 1]));
+        assert_eq!(said(&unknown(0), false), Answer::new(10, &[0x77]));
+        assert_eq!(said(&unknown(0), true), Answer::new(0, &[0, 0, 1]));
+        let many = [0, 1, 0x77, 0x80].repeat(347);
+        assert_eq!(index(&many).unwrap().len(), 347);
+        assert_eq!(
+            index(&[0, 1, 0x77, 0x80].repeat(348)).unwrap_err(),
+            Answer::new(13, &[1392])
+        );
+    }
+
+    /// Document 01, 'Both sides of each line': strings.
+    #[test]
+    fn strings_of_document_01() {
+        for (text, values) in [
+            ("", &[1][..]),
+            ("0000", &[3, 0]),
+            ("013D00", &[4, 0]),
+            ("012000", &[6, 0]),
+            ("0241FF00", &[5, 0, 1, 255]),
+            ("054100", &[2, 0, 5, 2]),
+            ("0141", &[1]),
+        ] {
+            assert_eq!(string(&hex(text)), Answer::new(9, values), "{text}");
+        }
+        assert!(string(&hex("00")).accepted());
+        assert!(string(&hex("03413DFF00")).accepted());
+    }
+
+    #[test]
+    fn fields_of_the_whole_payload() {
+        let whole = hex(
+            "80000000 00000010 01000010 12345678 01000E10 01000000 0000000C 00090400 C0A80101 00061F90",
+        );
+        let entry = next_entry(&whole[8..24], 0);
+        assert_eq!((entry.service, entry.ttl, entry.count1), (0x1234, 3600, 1));
+        assert_eq!(next_entry(&whole[8..24], 16).answer, NOTHING);
+        let option = read_option(&whole[28..]);
+        assert_eq!((option.protocol, option.port, option.size), (6, 8080, 12));
+        assert_eq!((option.address_at, option.address_len), (4, 4));
+        let sd = read(&whole, false).unwrap();
+        let mut table = [9; SLOTS];
+        fill_table(sd.options_index(), &mut table);
+        assert_eq!(table, [0; SLOTS]);
+        assert_eq!(
+            run(sd.options_index(), 0, 2),
+            [Answer::new(0, &[4, 0, 12]), NOTHING]
+        );
+    }
+
+    #[test]
+    fn own_lookup_and_document_lookup_agree() {
+        let options = hex("00010780 0009 04 00C0A8010100061F90 0002 0100 00");
+        let index = index(&options).unwrap();
+        let mut table = [0; SLOTS];
+        fill_table(&index, &mut table);
+        for ordinal in 0..5 {
+            assert_eq!(
+                option_at(&index, ordinal),
+                lookup_in(&options, &table, index.len(), ordinal)
+            );
+        }
+        assert_eq!(lookup_in(&options, &table, 400, 347).number, 21);
+        assert_eq!(lookup_in(&options, &[999], 1, 0).number, 21);
+    }
+}

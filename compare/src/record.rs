@@ -1,0 +1,543 @@
+//! Writes the crate's answers to seeded inputs, for replay by programs that have no Rust. FORMAT.md has the layout.
+
+use crate::calls::{Answer, SLOTS};
+use crate::oracle;
+use crate::oracle_tp::{has_bytes_behind, Stream};
+use crate::random::Random;
+use crate::tp_inputs::{self, Sequence, Step};
+use crate::{inputs, plan::family};
+use std::collections::BTreeMap;
+use std::io;
+use std::path::Path;
+
+/// What a record is about.
+#[derive(Clone, Copy, PartialEq, Eq, PartialOrd, Ord, Debug)]
+#[repr(u8)]
+pub enum Kind {
+    Payload = 1,
+    Message = 2,
+    Index = 3,
+    Entry = 4,
+    Option = 5,
+    String = 6,
+    Lookup = 7,
+    Run = 8,
+    Begin = 16,
+    Segment = 17,
+    Clear = 18,
+}
+
+impl Kind {
+    /// How many values an accepted answer of this kind has.
+    fn accepted_values(self) -> usize {
+        match self {
+            Kind::Payload | Kind::Message | Kind::Lookup => 3,
+            Kind::Index | Kind::Run => 1,
+            _ => 0,
+        }
+    }
+}
+
+/// The most bytes that a record has after its length field.
+pub const MOST_RECORD: usize = 2048;
+/// How often each number that the crate can give must come up.
+pub const OFTEN: u64 = 50;
+
+// ---- the check sum
+
+/// A check sum over bytes and numbers, by plain arithmetic.
+#[derive(Default)]
+pub struct Sum(u64);
+
+impl Sum {
+    pub fn byte(&mut self, byte: u8) {
+        self.0 = (self.0 * 16_777_619 + u64::from(byte) + 1) % 4_294_967_291;
+    }
+
+    pub fn bytes(&mut self, bytes: &[u8]) {
+        for byte in bytes {
+            self.byte(*byte);
+        }
+    }
+
+    /// A number as its four bytes, the high one first.
+    pub fn number(&mut self, number: u64) {
+        self.bytes(&(number as u32).to_be_bytes());
+    }
+
+    pub fn value(&self) -> u32 {
+        self.0 as u32
+    }
+}
+
+fn sum_of_table(table: &[u16; SLOTS]) -> u32 {
+    let mut sum = Sum::default();
+    for slot in table {
+        sum.bytes(&slot.to_be_bytes());
+    }
+    sum.value()
+}
+
+fn add_answer(sum: &mut Sum, answer: Answer) {
+    sum.number(answer.number);
+    for value in answer.values {
+        sum.number(value);
+    }
+}
+
+/// The entry cursor from the front: each entry's answer and fields, the last being 20 or the first refusal.
+fn sum_of_entries(entries: &[u8]) -> u32 {
+    let mut sum = Sum::default();
+    let mut at = 0;
+    loop {
+        let entry = oracle::next_entry(entries, at);
+        add_entry(&mut sum, &entry);
+        if !entry.answer.accepted() {
+            return sum.value();
+        }
+        at += 16;
+    }
+}
+
+fn add_entry(sum: &mut Sum, entry: &crate::calls::Entry) {
+    add_answer(sum, entry.answer);
+    for field in [
+        entry.code,
+        entry.start1,
+        entry.start2,
+        entry.count1,
+        entry.count2,
+        entry.service,
+        entry.instance,
+        entry.major,
+        entry.ttl,
+        entry.minor,
+        entry.initial_data,
+        entry.counter,
+        entry.eventgroup,
+    ] {
+        sum.number(field);
+    }
+}
+
+fn add_option(sum: &mut Sum, option: &crate::calls::Opt) {
+    add_answer(sum, option.answer);
+    for field in [
+        option.code,
+        option.size,
+        option.discardable,
+        option.priority,
+        option.weight,
+        option.address_at,
+        option.address_len,
+        option.protocol,
+        option.port,
+        option.string_at,
+        option.string_len,
+    ] {
+        sum.number(field);
+    }
+}
+
+/// The option cursor from the front: each answer, the last being 20 or the first refusal.
+fn sum_of_options(options: &[u8]) -> u32 {
+    let mut sum = Sum::default();
+    let mut at = 0;
+    loop {
+        let answer = oracle::next_option(options, at);
+        add_answer(&mut sum, answer);
+        if !answer.accepted() {
+            return sum.value();
+        }
+        at += answer.values[2] as usize;
+    }
+}
+
+// ---- records
+
+/// A list of records in the making, with what it holds.
+#[derive(Default)]
+pub struct List {
+    bytes: Vec<u8>,
+    records: u32,
+    longest: usize,
+    pub kinds: BTreeMap<Kind, u64>,
+    /// Answers by number; a string's error as 90 plus which of the six.
+    pub answers: BTreeMap<u64, u64>,
+}
+
+impl List {
+    /// One record: arguments, the answer, what is checked further, and the input.
+    fn record(
+        &mut self,
+        kind: Kind,
+        setting: u8,
+        arguments: &[u32],
+        answer: Answer,
+        checks: &[u32],
+        input: &[u8],
+    ) {
+        let count = match answer.number {
+            0 => kind.accepted_values(),
+            _ => answer.value_count(),
+        };
+        let values = answer.values[..count].iter().map(|value| *value as u32);
+        let values: Vec<u32> = values.collect();
+        let counts = [arguments.len(), values.len(), checks.len()].map(|n| n as u8);
+        let words = arguments.iter().chain(&values).chain(checks);
+        let length = 6 + 4 * words.clone().count() + input.len();
+        assert!(length <= MOST_RECORD, "a record of {length} bytes");
+        self.bytes.extend_from_slice(&(length as u16).to_be_bytes());
+        self.bytes
+            .extend_from_slice(&[kind as u8, setting, answer.number as u8]);
+        self.bytes.extend_from_slice(&counts);
+        for word in words {
+            self.bytes.extend_from_slice(&word.to_be_bytes());
+        }
+        self.bytes.extend_from_slice(input);
+        self.records += 1;
+        self.longest = self.longest.max(length);
+        *self.kinds.entry(kind).or_default() += 1;
+        self.count(answer);
+    }
+
+    /// Counts an answer that is recorded.
+    fn count(&mut self, answer: Answer) {
+        let number = match answer.number {
+            9 => 90 + answer.values[0],
+            number => number,
+        };
+        *self.answers.entry(number).or_default() += 1;
+    }
+
+    /// The whole file: magic, the number of records, the longest record, the records.
+    pub fn file(&self, magic: &[u8; 8]) -> Vec<u8> {
+        let mut file = magic.to_vec();
+        file.extend_from_slice(&self.records.to_be_bytes());
+        file.extend_from_slice(&(self.longest as u32).to_be_bytes());
+        file.extend_from_slice(&self.bytes);
+        file
+    }
+
+    fn often(&self, number: u64) -> u64 {
+        self.answers.get(&number).copied().unwrap_or(0)
+    }
+
+    fn print(&self, name: &str, size: usize) {
+        println!("{name}: {} records, {size} bytes", self.records);
+        for (kind, count) in &self.kinds {
+            println!("  {count:>8}  {kind:?}");
+        }
+        println!("  answers by number (9 by its six errors, 91 to 96):");
+        for (number, count) in &self.answers {
+            println!("  {count:>8}  {number}");
+        }
+    }
+}
+
+// ---- service discovery
+
+fn payload_record(list: &mut List, payload: &[u8], discard: bool) {
+    let reading = oracle::read(payload, discard);
+    reading_record(list, Kind::Payload, payload, payload, discard, reading);
+}
+
+fn message_record(list: &mut List, message: &[u8], discard: bool) {
+    if let Some(reading) = oracle::read_message(message, discard) {
+        let payload = &message[16..];
+        reading_record(list, Kind::Message, message, payload, discard, reading);
+    }
+}
+
+/// After an accepted reading: sums over the table, the entry cursor, the option cursor, and every option's lookup.
+fn reading_record(
+    list: &mut List,
+    kind: Kind,
+    input: &[u8],
+    payload: &[u8],
+    discard: bool,
+    reading: Result<someip_parse::sd::SdSlice, Answer>,
+) {
+    match reading {
+        Ok(sd) => {
+            let index = sd.options_index();
+            let mut table = [0; SLOTS];
+            oracle::fill_table(index, &mut table);
+            let checks = [
+                oracle::place_in(payload, sd.entries_slice()) as u32,
+                sd.entries_slice().len() as u32,
+                sum_of_table(&table),
+                sum_of_entries(sd.entries_slice()),
+                sum_of_options(index.options()),
+            ];
+            let answer = oracle::read_answer(&sd);
+            list.record(kind, discard.into(), &[], answer, &checks, input);
+        }
+        Err(answer) => list.record(kind, discard.into(), &[], answer, &[], input),
+    }
+}
+
+fn index_record(list: &mut List, options: &[u8]) {
+    match oracle::index(options) {
+        Ok(index) => {
+            let mut table = [0; SLOTS];
+            oracle::fill_table(&index, &mut table);
+            let answer = Answer::new(0, &[index.len() as u64]);
+            let checks = [sum_of_table(&table), sum_of_options(options)];
+            list.record(Kind::Index, 0, &[], answer, &checks, options);
+        }
+        Err(answer) => list.record(Kind::Index, 0, &[], answer, &[], options),
+    }
+}
+
+/// Lookup at one place of the crate's own index.
+fn lookup_record(list: &mut List, options: &[u8], ordinal: usize) {
+    if let Ok(index) = oracle::index(options) {
+        let answer = oracle::option_at(&index, ordinal);
+        list.record(Kind::Lookup, 0, &[ordinal as u32], answer, &[], options);
+    }
+}
+
+/// A run of the crate's own index: how many options it handed out, and a sum over its answers.
+fn run_record(list: &mut List, options: &[u8], start: u8, count: u8) {
+    if let Ok(index) = oracle::index(options) {
+        let answers = oracle::run(&index, start, count);
+        let mut sum = Sum::default();
+        for answer in &answers {
+            add_answer(&mut sum, *answer);
+        }
+        let said = Answer::new(0, &[answers.len() as u64 - 1]);
+        let arguments = [start.into(), count.into()];
+        list.record(Kind::Run, 0, &arguments, said, &[sum.value()], options);
+    }
+}
+
+/// One entry alone; the empty one is the cursor's 20.
+fn entry_record(list: &mut List, bytes: &[u8]) {
+    let entry = oracle::next_entry(bytes, 0);
+    let mut sum = Sum::default();
+    add_entry(&mut sum, &entry);
+    list.record(Kind::Entry, 0, &[], entry.answer, &[sum.value()], bytes);
+}
+
+fn option_record(list: &mut List, bytes: &[u8]) {
+    let option = oracle::read_option(bytes);
+    let mut sum = Sum::default();
+    add_option(&mut sum, &option);
+    list.record(Kind::Option, 0, &[], option.answer, &[sum.value()], bytes);
+}
+
+fn string_record(list: &mut List, string: &[u8]) {
+    list.record(Kind::String, 0, &[], oracle::string(string), &[], string);
+}
+
+/// Whether an input is kept: all short ones, one in sixty of those over 150 bytes, none that a record cannot hold.
+fn kept(r: &mut Random, input: &[u8]) -> bool {
+    input.len() <= 150 || (input.len() <= 1900 && r.once_in(60))
+}
+
+/// The service discovery list: at least 24,000 inputs, and every number that the crate can give at least fifty times.
+pub fn service_discovery(seed: u64) -> List {
+    let mut list = List::default();
+    let (mut out, mut number) = (Vec::new(), 0);
+    let wanted = || (1..=20).filter(|n| *n != 9).chain(91..=96);
+    while list.records < 24_000 || wanted().any(|n| list.often(n) < OFTEN) {
+        let mut r = Random::of(seed, family::RECORD, number);
+        let discard = r.once_in(2);
+        inputs::payload(&mut r, &mut out);
+        if kept(&mut r, &out) {
+            payload_record(&mut list, &out, discard);
+        }
+        if number % 3 == 0 {
+            inputs::message(&mut r, &mut out);
+            if kept(&mut r, &out) {
+                message_record(&mut list, &out, discard);
+            }
+        }
+        if number % 4 == 0 {
+            inputs::options(&mut r, &mut out);
+            if kept(&mut r, &out) {
+                index_record(&mut list, &out);
+                lookup_record(&mut list, &out, number as usize % 7);
+                run_record(&mut list, &out, r.below(6) as u8, r.below(16) as u8);
+            }
+        }
+        if number % 5 == 0 {
+            inputs::entry(&mut r, &mut out);
+            entry_record(&mut list, &out);
+            inputs::option(&mut r, &mut out);
+            option_record(&mut list, &out);
+            inputs::string(&mut r, &mut out);
+            string_record(&mut list, &out);
+        }
+        // Refusals of long inputs are rare among the kept ones.
+        if number % 150 == 0 {
+            inputs::announcing_too_much(&mut r, &mut out);
+            payload_record(&mut list, &out, discard);
+            let length = 1389 + r.below(200);
+            out.clear();
+            out.resize(length, 0x41);
+            index_record(&mut list, &out);
+        }
+        number += 1;
+    }
+    list
+}
+
+// ---- streams
+
+/// What is checked after each step: complete, whether an end is known, the end, the number of ranges, the number of the report's answer, its
+/// length and its sum (0 when there is none), then each range's start and end, ascending.
+fn state_checks(list: &mut List, stream: &mut Stream) -> Vec<u32> {
+    let seen = stream.seen();
+    let mut checks = vec![
+        stream.complete().into(),
+        seen.end.is_some().into(),
+        seen.end.unwrap_or(0),
+        seen.ranges.len() as u32,
+    ];
+    let (answer, report) = stream.take();
+    let mut sum = Sum::default();
+    sum.bytes(report.as_deref().unwrap_or(&[]));
+    list.count(answer);
+    checks.extend([answer.number as u32, answer.values[0] as u32, sum.value()]);
+    for (start, end) in seen.ranges {
+        checks.extend([start, end]);
+    }
+    checks
+}
+
+/// A sequence as records: its beginning, then each segment and each clearing. A sequence that leaves the comparison domain, or has a record
+/// that is too long, is left out.
+fn sequence_records(list: &mut List, sequence: &Sequence) -> bool {
+    if sequence.limit > 4096 {
+        return false;
+    }
+    let mut tried = Stream::begin(sequence.limit);
+    for step in &sequence.steps {
+        match step {
+            Step::Segment(segment) if segment.len() > 700 => return false,
+            Step::Segment(segment) if has_bytes_behind(segment) => return false,
+            Step::Segment(segment) if tried.would_overflow(segment) => return false,
+            Step::Segment(segment) => {
+                tried.consume(segment);
+            }
+            Step::Clear => tried.clear(),
+            Step::Take => {}
+        }
+    }
+    let mut stream = Stream::begin(sequence.limit);
+    let checks = state_checks(list, &mut stream);
+    let begun = Answer::default();
+    list.record(Kind::Begin, 0, &[sequence.limit], begun, &checks, &[]);
+    for step in &sequence.steps {
+        match step {
+            Step::Segment(segment) => {
+                let answer = stream.consume(segment);
+                let checks = state_checks(list, &mut stream);
+                list.record(Kind::Segment, 0, &[], answer, &checks, segment);
+            }
+            Step::Clear => {
+                stream.clear();
+                let checks = state_checks(list, &mut stream);
+                list.record(Kind::Clear, 0, &[], Answer::default(), &checks, &[]);
+            }
+            // The report is asked for after every step.
+            Step::Take => {}
+        }
+    }
+    true
+}
+
+/// The list of streams: at least 3,200 sequences.
+pub fn streams(seed: u64) -> List {
+    let mut list = List::default();
+    let mut number = 0;
+    let mut sequences = 0;
+    while sequences < 3_200 || [30, 31, 32, 33, 37].iter().any(|n| list.often(*n) < OFTEN) {
+        let mut r = Random::of(seed, family::RECORD, number);
+        let sequence = tp_inputs::sequence(&mut r);
+        number += 1;
+        // Long sequences are few, so that the file stays small.
+        if sequence.steps.len() > 12 && number % 8 != 0 {
+            continue;
+        }
+        if sequence_records(&mut list, &sequence) {
+            sequences += 1;
+        }
+    }
+    list
+}
+
+/// Writes both lists into `folder`.
+pub fn run(folder: &Path, seed: u64) -> io::Result<()> {
+    std::fs::create_dir_all(folder)?;
+    for (name, magic, list) in [
+        ("sd.bin", b"VIADSD01", service_discovery(seed)),
+        ("tp.bin", b"VIADTP01", streams(seed)),
+    ] {
+        let file = list.file(magic);
+        std::fs::write(folder.join(name), &file)?;
+        list.print(name, file.len());
+    }
+    Ok(())
+}
+
+#[cfg(test)]
+mod tests {
+    use super::*;
+
+    /// A file can be walked front to back by its length fields, and says how many records it has.
+    #[test]
+    fn files_can_be_walked() {
+        let mut list = List::default();
+        payload_record(&mut list, &[0; 12], false);
+        payload_record(&mut list, &[0; 11], true);
+        string_record(&mut list, &[5, 0x41, 0]);
+        let file = list.file(b"VIADSD01");
+        let mut at = 16;
+        let mut records = Vec::new();
+        while at < file.len() {
+            let length = usize::from(u16::from_be_bytes([file[at], file[at + 1]]));
+            records.push(&file[at + 2..at + 2 + length]);
+            at += 2 + length;
+        }
+        assert_eq!(at, file.len());
+        assert_eq!(file[8..12], 3u32.to_be_bytes());
+        // 11 bytes, discarding: 1 with 12.
+        assert_eq!(records[1][..6], [1, 1, 1, 0, 1, 0]);
+        assert_eq!(records[1][6..10], [0, 0, 0, 12]);
+        assert_eq!(records[1][10..], [0; 11]);
+        // The string 054100: 9, the second error, item 0, 5 bytes, 2 remaining.
+        assert_eq!(records[2][..6], [6, 0, 9, 0, 4, 0]);
+    }
+
+    #[test]
+    fn sums_are_as_formatted() {
+        let mut sum = Sum::default();
+        assert_eq!(sum.value(), 0);
+        sum.byte(0);
+        assert_eq!(sum.value(), 1);
+        sum.byte(2);
+        assert_eq!(sum.value(), 16_777_622);
+        let mut word = Sum::default();
+        word.number(258);
+        let mut bytes = Sum::default();
+        bytes.bytes(&[0, 0, 1, 2]);
+        assert_eq!(word.value(), bytes.value());
+    }
+
+    #[test]
+    fn every_number_is_recorded_often() {
+        let list = service_discovery(1);
+        assert!(list.records >= 20_000);
+        for number in (1..=20).filter(|n| *n != 9).chain(91..=96) {
+            assert!(list.often(number) >= OFTEN, "{number}");
+        }
+        let list = streams(1);
+        assert!(list.kinds[&Kind::Begin] >= 3_000);
+        for number in [30, 31, 32, 33, 37] {
+            assert!(list.often(number) >= OFTEN, "{number}");
+        }
+    }
+}

@@ -1,0 +1,311 @@
+//! Deliberate faults, each of which the comparison must notice: the port's answers, tables, states and buffers, wrong in one way at a time.
+
+use crate::calls::*;
+use crate::plan::Plan;
+use crate::whole::{service_discovery, streams};
+
+/// One fault in the port, or in what it is handed.
+#[derive(Clone, Copy, Debug, PartialEq)]
+pub enum Fault {
+    NeededLengthOffByOne,
+    RefusalsRenumbered,
+    TableShifted,
+    TableLeftAfterRefusal,
+    SlotPastTableTouched,
+    BytesBehindSwallowed,
+    DiscardIgnored,
+    RunNamesTheOther,
+    ZeroCountRunRefused,
+    SessionZeroAccepted,
+    PartOffByFour,
+    EntryFieldsSwapped,
+    TtlCutTo16Bits,
+    LookupOneFurther,
+    RunStopsEarly,
+    PortBytesSwapped,
+    DeleteInKeyAccepted,
+    InputDamaged,
+    SegmentSwallowed,
+    FirstBytesWin,
+    EndIgnored,
+    MadeUpRange,
+    FlagLeftInHeader,
+    ReportLengthWrong,
+    RefusalWrites,
+    GapFillerRefused,
+    ClearKeepsEnd,
+}
+
+use Fault::*;
+
+/// All faults: those of service discovery, then those of a stream.
+const SERVICE_DISCOVERY: [Fault; 18] = [
+    NeededLengthOffByOne,
+    RefusalsRenumbered,
+    TableShifted,
+    TableLeftAfterRefusal,
+    SlotPastTableTouched,
+    BytesBehindSwallowed,
+    DiscardIgnored,
+    RunNamesTheOther,
+    ZeroCountRunRefused,
+    SessionZeroAccepted,
+    PartOffByFour,
+    EntryFieldsSwapped,
+    TtlCutTo16Bits,
+    LookupOneFurther,
+    RunStopsEarly,
+    PortBytesSwapped,
+    DeleteInKeyAccepted,
+    InputDamaged,
+];
+const STREAMS: [Fault; 9] = [
+    SegmentSwallowed,
+    FirstBytesWin,
+    EndIgnored,
+    MadeUpRange,
+    FlagLeftInHeader,
+    ReportLengthWrong,
+    RefusalWrites,
+    GapFillerRefused,
+    ClearKeepsEnd,
+];
+
+/// A port with one fault.
+pub struct Faulty<'a, P> {
+    inner: &'a P,
+    fault: Fault,
+}
+
+impl<P: Calls> Faulty<'_, P> {
+    fn is(&self, fault: Fault) -> bool {
+        self.fault == fault
+    }
+
+    /// The faults of a whole reading's answer.
+    fn reading(&self, mut answer: Answer, payload: &[u8], table: &mut [u16]) -> Answer {
+        match (self.fault, answer.number) {
+            (NeededLengthOffByOne, 1) => answer.values[0] += 1,
+            (RefusalsRenumbered, 10) => answer.number = 11,
+            (RefusalsRenumbered, 11) => answer.number = 10,
+            (RunNamesTheOther, 12) => answer.values[0] = 3 - answer.values[0],
+            (BytesBehindSwallowed, 6) if answer.values[0] < answer.values[1] => {
+                let known = answer.values[0] as usize;
+                return self.inner.read(&payload[..known], table, false);
+            }
+            (ZeroCountRunRefused, 0) => {
+                let options = answer.values[2];
+                let entries = &payload[8..8 + 16 * answer.values[1] as usize];
+                let past = |entry: &[u8]| entry[3] >> 4 == 0 && u64::from(entry[1]) > options;
+                if let Some(entry) = entries.chunks(16).find(|entry| past(entry)) {
+                    table[..SLOTS].fill(0);
+                    return Answer::new(12, &[1, entry[1].into(), 0, options]);
+                }
+            }
+            (TableShifted, 0) if answer.values[2] > 1 => table[..SLOTS].rotate_right(1),
+            (TableLeftAfterRefusal, 7..=12) => table[0] = 4,
+            (SlotPastTableTouched, 0) => {
+                if let Some(slot) = table.get_mut(SLOTS) {
+                    *slot = 0;
+                }
+            }
+            _ => {}
+        }
+        answer
+    }
+}
+
+impl<P: Calls> Calls for Faulty<'_, P> {
+    fn read(&self, payload: &[u8], table: &mut [u16], discard: bool) -> Answer {
+        if self.is(InputDamaged) && payload.len() > 40 {
+            let mut other = payload.to_vec();
+            *other.last_mut().expect("not empty") ^= 1;
+            return self.inner.read(&other, table, discard);
+        }
+        let discard = discard && !self.is(DiscardIgnored);
+        let answer = self.inner.read(payload, table, discard);
+        self.reading(answer, payload, table)
+    }
+
+    fn read_message(&self, message: &[u8], table: &mut [u16], discard: bool) -> Answer {
+        let answer = self.inner.read_message(message, table, discard);
+        if self.is(SessionZeroAccepted) && answer.number == 16 {
+            return self.inner.read(&message[16..], table, discard);
+        }
+        answer
+    }
+
+    fn index(&self, options: &[u8], table: &mut [u16]) -> Answer {
+        self.inner.index(options, table)
+    }
+
+    fn parts(&self, payload: &[u8]) -> Answer {
+        let mut answer = self.inner.parts(payload);
+        if self.is(PartOffByFour) && answer.accepted() {
+            answer.values[2] -= 4;
+        }
+        answer
+    }
+
+    fn lookup(&self, options: &[u8], table: &[u16], count: usize, ordinal: usize) -> Answer {
+        let further =
+            usize::from(self.is(LookupOneFurther) && ordinal < count && count - ordinal > 1);
+        self.inner.lookup(options, table, count, ordinal + further)
+    }
+
+    fn next_option(&self, options: &[u8], at: usize) -> Answer {
+        self.inner.next_option(options, at)
+    }
+
+    fn next_of_run(
+        &self,
+        options: &[u8],
+        table: &[u16],
+        count: usize,
+        next: usize,
+        left: usize,
+    ) -> Answer {
+        let left = match self.fault {
+            RunStopsEarly => left.saturating_sub(1),
+            _ => left,
+        };
+        self.inner.next_of_run(options, table, count, next, left)
+    }
+
+    fn string(&self, string: &[u8]) -> Answer {
+        let answer = self.inner.string(string);
+        if self.is(DeleteInKeyAccepted) && answer.number == 9 && answer.values[3] == 0x7f {
+            return Answer::default();
+        }
+        answer
+    }
+
+    fn next_entry(&self, entries: &[u8], at: usize) -> Entry {
+        let mut entry = self.inner.next_entry(entries, at);
+        if self.is(EntryFieldsSwapped) {
+            std::mem::swap(&mut entry.service, &mut entry.instance);
+        }
+        if self.is(TtlCutTo16Bits) {
+            entry.ttl &= 0xffff;
+        }
+        entry
+    }
+
+    fn read_option(&self, option: &[u8]) -> Opt {
+        let mut said = self.inner.read_option(option);
+        if self.is(PortBytesSwapped) {
+            said.port = (said.port as u16).swap_bytes().into();
+        }
+        said
+    }
+
+    fn begin(&self, state: &mut [u32], limit: u32) -> Answer {
+        self.inner.begin(state, limit)
+    }
+
+    fn consume(&self, state: &mut [u32], segment: &[u8], buffer: &mut [u8]) -> Answer {
+        let (held, bytes) = (state.to_vec(), buffer.to_vec());
+        let answer = self.inner.consume(state, segment, buffer);
+        match self.fault {
+            SegmentSwallowed if answer.accepted() && segment.len() == 20 + 48 => {
+                state.copy_from_slice(&held);
+                buffer.copy_from_slice(&bytes);
+            }
+            FirstBytesWin if answer.accepted() => {
+                for pair in held[4..4 + 2 * held[1] as usize].chunks(2) {
+                    let (from, to) = (16 + pair[0] as usize, 16 + pair[1] as usize);
+                    buffer[from..to].copy_from_slice(&bytes[from..to]);
+                }
+            }
+            EndIgnored if answer.accepted() => state[2] = 0,
+            MadeUpRange if answer.accepted() && state[1] == 2 => state[5] += 1,
+            FlagLeftInHeader
+                if answer.accepted() && segment[16..19] == [0; 3] && segment[19] < 16 =>
+            {
+                buffer[14] |= 0x20
+            }
+            RefusalWrites if answer.number == 33 => buffer[16] ^= 1,
+            GapFillerRefused if answer.accepted() && held[1] as usize == MOST_RANGES => {
+                state.copy_from_slice(&held);
+                buffer.copy_from_slice(&bytes);
+                return Answer::new(35, &[]);
+            }
+            _ => {}
+        }
+        answer
+    }
+
+    fn complete(&self, state: &[u32]) -> Answer {
+        self.inner.complete(state)
+    }
+
+    fn take(&self, state: &[u32], buffer: &mut [u8]) -> Answer {
+        let answer = self.inner.take(state, buffer);
+        if self.is(ReportLengthWrong) && answer.accepted() {
+            buffer[7] = buffer[7].wrapping_sub(8);
+        }
+        answer
+    }
+
+    fn clear(&self, state: &mut [u32]) -> Answer {
+        let known = state[2];
+        let answer = self.inner.clear(state);
+        if self.is(ClearKeepsEnd) {
+            state[2] = known;
+        }
+        answer
+    }
+}
+
+/// Tries each fault over a small run. Returns how many went unnoticed.
+pub fn run<P: Calls>(port: &P, plan: &Plan) -> usize {
+    let mut unnoticed = 0;
+    let sides = SERVICE_DISCOVERY
+        .iter()
+        .map(|fault| (fault, true))
+        .chain(STREAMS.iter().map(|fault| (fault, false)));
+    for (fault, discovery) in sides {
+        let faulty = Faulty {
+            inner: port,
+            fault: *fault,
+        };
+        let tally = if discovery {
+            service_discovery(&faulty, plan)
+        } else {
+            streams(&faulty, plan)
+        };
+        let first = tally.first.first().and_then(|text| text.lines().next());
+        match first {
+            Some(what) => println!(
+                "noticed   {fault:?}: {} differences, the first in {what}",
+                tally.differences
+            ),
+            None => {
+                println!("UNNOTICED {fault:?}");
+                unnoticed += 1;
+            }
+        }
+    }
+    let tried = SERVICE_DISCOVERY.len() + STREAMS.len();
+    println!("{tried} faults tried, {unnoticed} unnoticed");
+    unnoticed
+}
+
+#[cfg(test)]
+mod tests {
+    use super::*;
+    use crate::plan::Exhaustive;
+    use crate::standin::StandIn;
+
+    #[test]
+    fn every_fault_in_the_stand_in_is_noticed() {
+        let plan = Plan {
+            seed: 1,
+            payloads: 20_000,
+            sequences: 5_000,
+            exhaustive: Exhaustive::None,
+            threads: 2,
+        };
+        assert_eq!(run(&StandIn, &plan), 0);
+    }
+}

@@ -1,0 +1,224 @@
+//! A port for tests that need no library: the crate's own readings for service discovery, and document 01's plain machine for a stream.
+
+use crate::calls::*;
+use crate::oracle;
+use someip_parse::TpRange;
+
+pub struct StandIn;
+
+impl StandIn {
+    /// Writes the 347 slots unless there are fewer, which is 22.
+    fn lent(
+        table: &mut [u16],
+        index: Option<&someip_parse::sd::SdOptionsIndex>,
+        said: Answer,
+    ) -> Answer {
+        let slots = table.len() as u64;
+        let Some(front) = table.get_mut(..SLOTS) else {
+            return Answer::new(22, &[slots]);
+        };
+        let mut filled = [0; SLOTS];
+        if let Some(index) = index {
+            oracle::fill_table(index, &mut filled);
+        }
+        front.copy_from_slice(&filled);
+        said
+    }
+}
+
+fn be32(bytes: &[u8]) -> u32 {
+    u32::from_be_bytes([bytes[0], bytes[1], bytes[2], bytes[3]])
+}
+
+/// The ranges held, or `None` for a malformed state.
+fn held(state: &[u32]) -> Option<Vec<TpRange>> {
+    let (limit, count) = (*state.first()?, state[1] as usize);
+    if state.len() < WORDS || limit > MOST_LIMIT || count > MOST_RANGES {
+        return None;
+    }
+    let ranges: Vec<TpRange> = state[4..4 + 2 * count]
+        .chunks(2)
+        .map(|pair| TpRange {
+            start: pair[0],
+            end: pair[1],
+        })
+        .collect();
+    let bad = |r: &TpRange| r.end < r.start || r.end > limit;
+    let touching = (1..count).any(|i| (0..i).any(|j| ranges[i].merge(ranges[j]).is_some()));
+    let past = state[2] != 0 && state[3] > limit;
+    (!ranges.iter().any(bad) && !touching && !past).then_some(ranges)
+}
+
+fn put(state: &mut [u32], ranges: &[TpRange]) {
+    state[1] = ranges.len() as u32;
+    for (at, range) in ranges.iter().enumerate() {
+        state[4 + 2 * at] = range.start;
+        state[5 + 2 * at] = range.end;
+    }
+}
+
+impl Calls for StandIn {
+    fn read(&self, payload: &[u8], table: &mut [u16], discard: bool) -> Answer {
+        match oracle::read(payload, discard) {
+            Ok(sd) => Self::lent(table, Some(sd.options_index()), oracle::read_answer(&sd)),
+            Err(answer) => Self::lent(table, None, answer),
+        }
+    }
+
+    fn read_message(&self, message: &[u8], table: &mut [u16], discard: bool) -> Answer {
+        if table.len() >= SLOTS && message.len() < 16 {
+            return Self::lent(table, None, Answer::new(1, &[16]));
+        }
+        match oracle::read_message(message, discard) {
+            Some(Ok(sd)) => Self::lent(table, Some(sd.options_index()), oracle::read_answer(&sd)),
+            Some(Err(answer)) => Self::lent(table, None, answer),
+            None => Answer::new(99, &[]),
+        }
+    }
+
+    fn index(&self, options: &[u8], table: &mut [u16]) -> Answer {
+        match oracle::index(options) {
+            Ok(index) => Self::lent(table, Some(&index), Answer::new(0, &[index.len() as u64])),
+            Err(answer) => Self::lent(table, None, answer),
+        }
+    }
+
+    fn parts(&self, payload: &[u8]) -> Answer {
+        match oracle::read(payload, true) {
+            Err(answer) if answer.number <= 6 => answer,
+            _ => {
+                let entries = u64::from(be32(&payload[4..]));
+                let options = payload.len() as u64 - 12 - entries;
+                Answer::new(0, &[8, entries, 12 + entries, options])
+            }
+        }
+    }
+
+    fn lookup(&self, options: &[u8], table: &[u16], count: usize, ordinal: usize) -> Answer {
+        oracle::lookup_in(options, table, count, ordinal)
+    }
+
+    fn next_option(&self, options: &[u8], at: usize) -> Answer {
+        oracle::next_option(options, at)
+    }
+
+    fn next_of_run(
+        &self,
+        options: &[u8],
+        table: &[u16],
+        count: usize,
+        next: usize,
+        left: usize,
+    ) -> Answer {
+        if left == 0 {
+            return NOTHING;
+        }
+        oracle::lookup_in(options, table, count, next)
+    }
+
+    fn string(&self, string: &[u8]) -> Answer {
+        oracle::string(string)
+    }
+
+    fn next_entry(&self, entries: &[u8], at: usize) -> Entry {
+        oracle::next_entry(entries, at)
+    }
+
+    fn read_option(&self, option: &[u8]) -> Opt {
+        oracle::read_option(option)
+    }
+
+    fn begin(&self, state: &mut [u32], limit: u32) -> Answer {
+        if state.len() < WORDS {
+            return Answer::new(38, &[]);
+        }
+        state[1..].fill(0);
+        state[0] = if limit > MOST_LIMIT { 0 } else { limit };
+        if limit > MOST_LIMIT {
+            return Answer::new(36, &[limit.into()]);
+        }
+        Answer::default()
+    }
+
+    fn consume(&self, state: &mut [u32], segment: &[u8], buffer: &mut [u8]) -> Answer {
+        let Some(ranges) = held(state) else {
+            return Answer::new(38, &[]);
+        };
+        let types = [0x20, 0x21, 0x22, 0xa0, 0xa1];
+        if segment.len() < 20
+            || be32(&segment[4..]) as usize != segment.len() - 8
+            || segment[12] != 1
+            || !types.contains(&segment[14])
+        {
+            return Answer::new(30, &[]);
+        }
+        let word = be32(&segment[16..]);
+        let (offset, more, payload) = (word & !15, word & 1 == 1, &segment[20..]);
+        let (start, length) = (u64::from(offset), payload.len() as u64);
+        let end = start + length;
+        if end > state[0].into() {
+            return Answer::new(31, &[start, length, state[0].into()]);
+        }
+        if more && length % 16 != 0 {
+            return Answer::new(32, &[start, length]);
+        }
+        let known = u64::from(state[3]);
+        if state[2] != 0 && (end > known || !more && end != known) {
+            return Answer::new(33, &[known, end]);
+        }
+        if (buffer.len() as u64) < 16 + end {
+            return Answer::new(34, &[16 + end]);
+        }
+        let mut new = TpRange {
+            start: offset,
+            end: end as u32,
+        };
+        let mut apart = Vec::new();
+        for range in ranges {
+            match new.merge(range) {
+                Some(merged) => new = merged,
+                None => apart.push(range),
+            }
+        }
+        apart.push(new);
+        if apart.len() > MOST_RANGES {
+            return Answer::new(35, &[]);
+        }
+        put(state, &apart);
+        if !more {
+            (state[2], state[3]) = (1, end as u32);
+        }
+        if offset == 0 {
+            buffer[..16].copy_from_slice(&segment[..16]);
+            buffer[14] &= !0x20;
+        }
+        buffer[16 + offset as usize..16 + end as usize].copy_from_slice(payload);
+        Answer::default()
+    }
+
+    fn complete(&self, state: &[u32]) -> Answer {
+        let complete = held(state)
+            .is_some_and(|ranges| state[2] != 0 && ranges.len() == 1 && ranges[0].start == 0);
+        Answer::new(0, &[complete.into()])
+    }
+
+    fn take(&self, state: &[u32], buffer: &mut [u8]) -> Answer {
+        let Some(ranges) = held(state) else {
+            return Answer::new(38, &[]);
+        };
+        if self.complete(state).values[0] == 0 {
+            return Answer::new(37, &[]);
+        }
+        let length = 16 + u64::from(ranges[0].end);
+        if (buffer.len() as u64) < length {
+            return Answer::new(34, &[length]);
+        }
+        buffer[4..8].copy_from_slice(&(ranges[0].end + 8).to_be_bytes());
+        Answer::new(0, &[length])
+    }
+
+    fn clear(&self, state: &mut [u32]) -> Answer {
+        state[1..].fill(0);
+        Answer::default()
+    }
+}

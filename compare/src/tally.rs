@@ -1,0 +1,150 @@
+//! What a run counted, and the first differences that it found.
+
+use std::collections::BTreeMap;
+use std::fmt::{Debug, Write};
+
+/// How many differences are kept with their text.
+const KEPT: usize = 20;
+
+/// Counts by name. Names are few and the same literals come again, so that a look at the pointers finds most at once.
+#[derive(Default)]
+pub struct Counts(Vec<(&'static str, u64)>);
+
+impl Counts {
+    pub fn add(&mut self, name: &'static str, count: u64) {
+        let same = |known: &&'static str| std::ptr::eq(*known, name);
+        let found = self.0.iter().position(|(known, _)| same(known));
+        let found = found.or_else(|| self.0.iter().position(|(known, _)| *known == name));
+        match found {
+            Some(at) => self.0[at].1 += count,
+            None => self.0.push((name, count)),
+        }
+    }
+
+    #[cfg(test)]
+    pub fn total(&self) -> u64 {
+        self.0.iter().map(|(_, count)| count).sum()
+    }
+
+    fn print(&self, title: &str) {
+        println!("{title}:");
+        for (name, count) in &self.0 {
+            println!("  {count:>12}  {name}");
+        }
+    }
+}
+
+#[derive(Default)]
+pub struct Tally {
+    /// Inputs by kind.
+    pub inputs: Counts,
+    /// What was compared, by what it is: calls, tables, buffers, reports.
+    pub compared: Counts,
+    /// The crate's answers by number; a string's error as 90 plus which of the six.
+    pub answers: BTreeMap<u64, u64>,
+    /// Answers that the crate has not, judged by document 01 alone, by number.
+    pub by_document: BTreeMap<u64, u64>,
+    /// Inputs that fell outside what can be compared, by why.
+    pub left_out: Counts,
+    pub differences: u64,
+    pub first: Vec<String>,
+}
+
+impl Tally {
+    pub fn input(&mut self, kind: &'static str) {
+        self.inputs.add(kind, 1);
+    }
+
+    pub fn leave_out(&mut self, why: &'static str) {
+        self.left_out.add(why, 1);
+    }
+
+    /// Counts an answer of the crate.
+    pub fn answer(&mut self, answer: crate::calls::Answer) {
+        let number = match answer.number {
+            9 => 90 + answer.values[0],
+            number => number,
+        };
+        *self.answers.entry(number).or_default() += 1;
+    }
+
+    pub fn document(&mut self, number: u64) {
+        *self.by_document.entry(number).or_default() += 1;
+    }
+
+    /// Compares two things of one kind; `input` says for what.
+    pub fn same<T: PartialEq + Debug>(
+        &mut self,
+        what: &'static str,
+        want: &T,
+        got: &T,
+        input: impl FnOnce() -> String,
+    ) -> bool {
+        self.compared.add(what, 1);
+        if want == got {
+            return true;
+        }
+        self.differences += 1;
+        if self.first.len() < KEPT {
+            let text = format!(
+                "{what}\n  for  {}\n  want {want:?}\n  got  {got:?}",
+                input()
+            );
+            self.first.push(text);
+        }
+        false
+    }
+
+    pub fn add(&mut self, other: Tally) {
+        for (mine, theirs) in [
+            (&mut self.inputs, other.inputs),
+            (&mut self.compared, other.compared),
+            (&mut self.left_out, other.left_out),
+        ] {
+            for (name, count) in theirs.0 {
+                mine.add(name, count);
+            }
+        }
+        for (number, count) in other.answers {
+            *self.answers.entry(number).or_default() += count;
+        }
+        for (number, count) in other.by_document {
+            *self.by_document.entry(number).or_default() += count;
+        }
+        self.differences += other.differences;
+        let room = KEPT - self.first.len();
+        self.first.extend(other.first.into_iter().take(room));
+    }
+
+    pub fn print(&self) {
+        self.inputs.print("inputs");
+        self.compared
+            .print("compared without a difference, unless listed below");
+        println!("answers of the crate:");
+        for (number, count) in &self.answers {
+            let name = match number {
+                0 => "accepted".to_string(),
+                91..=96 => format!("9, string error {}", number - 90),
+                _ => number.to_string(),
+            };
+            println!("  {count:>12}  {name}");
+        }
+        println!("answers that the crate has not, compared with document 01 alone:");
+        for (number, count) in &self.by_document {
+            println!("  {count:>12}  {number}");
+        }
+        self.left_out.print("left out");
+        println!("differences: {}", self.differences);
+        for difference in &self.first {
+            println!("\n{difference}");
+        }
+    }
+}
+
+pub fn hex(bytes: &[u8]) -> String {
+    let mut text = String::with_capacity(2 * bytes.len());
+    for byte in bytes {
+        write!(text, "{byte:02x}").expect("a string takes all");
+    }
+    text
+}

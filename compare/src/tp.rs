@@ -1,0 +1,374 @@
+//! The comparison of one stream: what the port answers, holds and writes after each step, beside the crate's `TpBuf`.
+
+use crate::calls::{Answer, Calls, MOST_LIMIT, MOST_RANGES, WORDS};
+use crate::oracle_tp::{has_bytes_behind, Seen, Stream};
+use crate::tally::{hex, Tally};
+use crate::tp_inputs::{Sequence, Step};
+
+/// A way to damage a state.
+type Spoil = fn(&mut [u32; WORDS]);
+
+/// A stream of the port: its state and the lent buffer.
+struct Lent {
+    state: [u32; WORDS],
+    buffer: Vec<u8>,
+}
+
+/// What a byte of the buffer holds before the first call, so that a byte left alone shows.
+fn before(at: usize) -> u8 {
+    (at as u8).wrapping_mul(29) ^ 0xa5
+}
+
+impl Lent {
+    fn new(room: usize) -> Lent {
+        Lent {
+            state: [0xdead_beef; WORDS],
+            buffer: (0..room).map(before).collect(),
+        }
+    }
+
+    /// Limit, ranges in ascending order, end.
+    fn seen(&self) -> (u32, Vec<(u32, u32)>, Option<u32>) {
+        let count = (self.state[1] as usize).min(MOST_RANGES);
+        let mut ranges: Vec<(u32, u32)> = self.state[4..4 + 2 * count]
+            .chunks(2)
+            .map(|pair| (pair[0], pair[1]))
+            .collect();
+        ranges.sort_unstable();
+        let end = (self.state[2] != 0).then_some(self.state[3]);
+        (self.state[0], ranges, end)
+    }
+}
+
+pub struct Tp<'a, P> {
+    port: &'a P,
+    pub tally: Tally,
+    /// A buffer of the largest size as it is before any call.
+    untouched: Vec<u8>,
+}
+
+impl<'a, P: Calls> Tp<'a, P> {
+    pub fn new(port: &'a P) -> Tp<'a, P> {
+        Tp {
+            port,
+            tally: Tally::default(),
+            untouched: (0..16 + MOST_LIMIT as usize + 16).map(before).collect(),
+        }
+    }
+
+    /// One sequence inside document 01's domain: the buffer has room for the limit. A segment that would make a 33rd range is not handed to
+    /// the crate; 35 is due.
+    pub fn sequence(&mut self, sequence: &Sequence) {
+        self.tally.input("sequences of segments");
+        let room = 16 + sequence.limit as usize + sequence.spare;
+        let mut lent = Lent::new(room);
+        let mut stream = Stream::begin(sequence.limit);
+        let mut touched = Touched::default();
+        let began = self.port.begin(&mut lent.state, sequence.limit);
+        self.tally
+            .same("begin", &Answer::default(), &began, || name(sequence, 0));
+        self.state_is(&stream, &lent, &touched, sequence, 0);
+        let differences = self.tally.differences;
+        for (number, step) in sequence.steps.iter().enumerate() {
+            self.step(step, &mut stream, &mut lent, &mut touched, sequence, number);
+            if self.tally.differences > differences {
+                return;
+            }
+        }
+    }
+
+    fn step(
+        &mut self,
+        step: &Step,
+        stream: &mut Stream,
+        lent: &mut Lent,
+        touched: &mut Touched,
+        sequence: &Sequence,
+        number: usize,
+    ) {
+        let held = lent.state;
+        match step {
+            Step::Segment(segment) => {
+                let want = self.consume(stream, segment);
+                let got = self
+                    .port
+                    .consume(&mut lent.state, segment, &mut lent.buffer);
+                self.tally
+                    .same("consume", &want, &got, || name(sequence, number));
+                if !want.accepted() {
+                    self.tally
+                        .same("state after a refusal", &held, &lent.state, || {
+                            name(sequence, number)
+                        });
+                }
+            }
+            Step::Take => {
+                let (want, report) = stream.take();
+                self.tally.answer(want);
+                let got = self.port.take(&lent.state, &mut lent.buffer);
+                self.tally
+                    .same("take", &want, &got, || name(sequence, number));
+                if let (Some(report), true) = (report, got.accepted()) {
+                    let length = (got.values[0] as usize).min(lent.buffer.len());
+                    let part = lent.buffer[..length].to_vec();
+                    self.tally
+                        .same("report", &report, &part, || name(sequence, number));
+                }
+            }
+            Step::Clear => {
+                touched.add(&stream.seen(), stream.header_set);
+                stream.clear();
+                let got = self.port.clear(&mut lent.state);
+                self.tally
+                    .same("clear", &Answer::default(), &got, || name(sequence, number));
+            }
+        }
+        self.state_is(stream, lent, touched, sequence, number);
+    }
+
+    /// The crate's answer to a segment, or 35 by document 01.
+    fn consume(&mut self, stream: &mut Stream, segment: &[u8]) -> Answer {
+        if stream.would_overflow(segment) {
+            // A refusal that comes before 35 is still the crate's.
+            let answer = stream.clone().consume(segment);
+            if answer.accepted() {
+                self.tally.document(35);
+                return Answer::new(35, &[]);
+            }
+        }
+        let answer = stream.consume(segment);
+        if has_bytes_behind(segment) {
+            self.tally.document(30);
+        } else {
+            self.tally.answer(answer);
+        }
+        answer
+    }
+
+    /// Limit, ranges, end, whether complete, and every byte of the buffer.
+    fn state_is(
+        &mut self,
+        stream: &Stream,
+        lent: &Lent,
+        touched: &Touched,
+        sequence: &Sequence,
+        number: usize,
+    ) {
+        let seen = stream.seen();
+        let want = (sequence.limit, seen.ranges.clone(), seen.end);
+        self.tally
+            .same("limit, ranges, end", &want, &lent.seen(), || {
+                name(sequence, number)
+            });
+        let want = Answer::new(0, &[u64::from(stream.complete())]);
+        let got = self.port.complete(&lent.state);
+        self.tally
+            .same("complete", &want, &got, || name(sequence, number));
+        self.buffer_is(&seen, stream.header_set, lent, touched, || {
+            name(sequence, number)
+        });
+    }
+
+    /// Under the ranges and in the header the crate's bytes; elsewhere what was there before, but for bytes that an earlier stream set.
+    fn buffer_is(
+        &mut self,
+        seen: &Seen,
+        header_set: bool,
+        lent: &Lent,
+        touched: &Touched,
+        name: impl FnOnce() -> String,
+    ) {
+        let mut want = self.untouched[..lent.buffer.len()].to_vec();
+        touched.keep(&mut want, &lent.buffer);
+        let mut set = |from: usize, to: usize| want[from..to].copy_from_slice(&seen.data[from..to]);
+        if header_set {
+            set(0, 16);
+        }
+        for (start, end) in &seen.ranges {
+            set(16 + *start as usize, 16 + *end as usize);
+        }
+        self.tally.same("buffer", &want, &lent.buffer, name);
+    }
+
+    /// What only document 01 says: 34 under a short buffer, 36, 38, and states of too few words.
+    pub fn by_document(&mut self, sequence: &Sequence, short: usize, limit: u32) {
+        let mut lent = Lent::new(short);
+        let mut stream = Stream::begin(sequence.limit);
+        self.port.begin(&mut lent.state, sequence.limit);
+        for (number, step) in sequence.steps.iter().enumerate() {
+            let Step::Segment(segment) = step else {
+                continue;
+            };
+            let mut tried = stream.clone();
+            let mut want = tried.consume(segment);
+            if want.accepted() {
+                let offset =
+                    u32::from_be_bytes([segment[16], segment[17], segment[18], segment[19] & 0xf0]);
+                let needed = 16 + offset as usize + segment.len() - 20;
+                if short < needed {
+                    want = Answer::new(34, &[needed as u64]);
+                } else if stream.would_overflow(segment) {
+                    want = Answer::new(35, &[]);
+                }
+            }
+            let (held, bytes) = (lent.state, lent.buffer.clone());
+            let got = self
+                .port
+                .consume(&mut lent.state, segment, &mut lent.buffer);
+            self.tally.document(want.number);
+            self.tally
+                .same("consume in a short buffer", &want, &got, || {
+                    name(sequence, number)
+                });
+            if want.accepted() {
+                stream = tried;
+            } else {
+                let (kept, same) = ((held, &bytes), (lent.state, &lent.buffer));
+                self.tally
+                    .same("all as it was", &kept, &same, || name(sequence, number));
+            }
+        }
+        self.take_short(&mut stream, &mut lent, sequence);
+        self.begin_anyhow(limit);
+        self.malformed(&lent, sequence);
+    }
+
+    /// Taking the message with a buffer one byte shorter than it is: 34, unless it is not complete.
+    fn take_short(&mut self, stream: &mut Stream, lent: &mut Lent, sequence: &Sequence) {
+        let want = match stream.take() {
+            (_, Some(report)) => Answer::new(34, &[report.len() as u64]),
+            (answer, None) => answer,
+        };
+        let room = want.values[0].saturating_sub(1) as usize;
+        let bytes = lent.buffer.clone();
+        let got = self.port.take(&lent.state, &mut lent.buffer[..room]);
+        self.tally.document(want.number);
+        self.tally
+            .same("take from a short buffer", &want, &got, || {
+                name(sequence, 0)
+            });
+        self.tally
+            .same("buffer as it was", &bytes, &lent.buffer, || {
+                name(sequence, 0)
+            });
+    }
+
+    /// Beginning under any limit: 36 above 65,520, and the state then has limit 0; no range and no end either way.
+    fn begin_anyhow(&mut self, limit: u32) {
+        let mut lent = Lent::new(0);
+        let got = self.port.begin(&mut lent.state, limit);
+        let (want, kept) = if limit > MOST_LIMIT {
+            (Answer::new(36, &[limit.into()]), 0)
+        } else {
+            (Answer::default(), limit)
+        };
+        self.tally.document(want.number);
+        self.tally.same("begin", &want, &got, || limit.to_string());
+        self.tally
+            .same("state begun", &(kept, vec![], None), &lent.seen(), || {
+                limit.to_string()
+            });
+    }
+
+    /// The state damaged in each way that document 01 lists: 38, nothing written; and too few words.
+    fn malformed(&mut self, lent: &Lent, sequence: &Sequence) {
+        let limit = lent.state[0];
+        let damage: [(&str, Spoil); 7] = [
+            ("more than 32 ranges", |s| s[1] = 33),
+            ("a range that ends before its start", |s| {
+                s[1] = 1;
+                (s[4], s[5]) = (16, 0);
+            }),
+            ("a range past the limit", |s| {
+                s[1] = 1;
+                (s[4], s[5]) = (0, s[0] + 1);
+            }),
+            ("two ranges that touch", |s| {
+                s[1] = 2;
+                (s[4], s[5], s[6], s[7]) = (0, 0, 0, 0);
+            }),
+            ("an end past the limit", |s| {
+                s[2] = 1;
+                s[3] = s[0] + 1;
+            }),
+            ("a limit above 65,520", |s| s[0] = MOST_LIMIT + 1),
+            ("a count that is huge", |s| s[1] = u32::MAX),
+        ];
+        let segment = crate::tp_inputs::segment(0, true, &[]);
+        let want = Answer::new(38, &[]);
+        for (why, spoil) in damage {
+            let mut state = lent.state;
+            spoil(&mut state);
+            let held = state;
+            let mut buffer = lent.buffer.clone();
+            let name = || format!("{why}, limit {limit}: {}", crate::tp::name(sequence, 0));
+            let got = self.port.consume(&mut state, &segment, &mut buffer);
+            self.tally.document(38);
+            self.tally.same("consume, malformed", &want, &got, name);
+            let got = self.port.take(&state, &mut buffer);
+            self.tally.same("take, malformed", &want, &got, name);
+            let got = self.port.complete(&state);
+            self.tally
+                .same("complete, malformed", &Answer::default(), &got, name);
+            self.tally.same(
+                "all as it was",
+                &(held, &lent.buffer),
+                &(state, &buffer),
+                name,
+            );
+        }
+        let mut state = lent.state;
+        let mut buffer = lent.buffer.clone();
+        let got = self
+            .port
+            .consume(&mut state[..WORDS - 1], &segment, &mut buffer);
+        self.tally
+            .same("consume, few words", &want, &got, || "67 words".into());
+        let got = self.port.begin(&mut state[..WORDS - 1], 16);
+        self.tally
+            .same("begin, few words", &want, &got, || "67 words".into());
+        self.tally.same(
+            "all as it was",
+            &(lent.state, &lent.buffer),
+            &(state, &buffer),
+            || "67 words".into(),
+        );
+    }
+}
+
+/// Bytes that a stream set before it was cleared: the crate forgets them, the lent buffer keeps them.
+#[derive(Default)]
+struct Touched {
+    ranges: Vec<(usize, usize)>,
+}
+
+impl Touched {
+    fn add(&mut self, seen: &Seen, header_set: bool) {
+        if header_set {
+            self.ranges.push((0, 16));
+        }
+        for (start, end) in &seen.ranges {
+            self.ranges.push((16 + *start as usize, 16 + *end as usize));
+        }
+    }
+
+    /// Takes these bytes from the buffer as it is.
+    fn keep(&self, want: &mut [u8], buffer: &[u8]) {
+        for (from, to) in &self.ranges {
+            want[*from..*to].copy_from_slice(&buffer[*from..*to]);
+        }
+    }
+}
+
+/// A sequence in words, up to the step that showed the difference.
+fn name(sequence: &Sequence, number: usize) -> String {
+    let mut text = format!("limit {}, spare {}", sequence.limit, sequence.spare);
+    for step in &sequence.steps[..sequence.steps.len().min(number + 1)] {
+        match step {
+            Step::Segment(segment) => text += &format!(", segment {}", hex(segment)),
+            Step::Take => text += ", take",
+            Step::Clear => text += ", clear",
+        }
+    }
+    text
+}

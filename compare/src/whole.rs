@@ -1,0 +1,303 @@
+//! The whole comparison: every kind of input over every thread, in one tally.
+
+use crate::calls::{Calls, SLOTS};
+use crate::inputs;
+use crate::plan::{family, Exhaustive, Plan};
+use crate::random::Random;
+use crate::sd::Sd;
+use crate::tally::Tally;
+use crate::tp::Tp;
+use crate::tp_inputs;
+
+/// Does `count` pieces of work in blocks, on all threads.
+fn spread<W>(threads: usize, count: u64, work: W) -> Tally
+where
+    W: Fn(std::ops::Range<u64>) -> Tally + Sync,
+{
+    const BLOCK: u64 = 4096;
+    let next = std::sync::atomic::AtomicU64::new(0);
+    let mut whole = Tally::default();
+    std::thread::scope(|scope| {
+        let workers: Vec<_> = (0..threads)
+            .map(|_| {
+                scope.spawn(|| {
+                    let mut mine = Tally::default();
+                    loop {
+                        let from = next.fetch_add(BLOCK, std::sync::atomic::Ordering::Relaxed);
+                        if from >= count {
+                            return mine;
+                        }
+                        mine.add(work(from..count.min(from + BLOCK)));
+                    }
+                })
+            })
+            .collect();
+        for worker in workers {
+            whole.add(worker.join().expect("a worker does not panic"));
+        }
+    });
+    whole
+}
+
+/// How many slots are lent: mostly 347, at times more, rarely fewer.
+fn slots(r: &mut Random) -> usize {
+    match r.below(64) {
+        0 => r.pick(&[0, 1, 346]),
+        1..=8 => SLOTS + r.between(1, 53),
+        _ => SLOTS,
+    }
+}
+
+/// A seeded payload, or a message with SD header one time in four.
+pub fn one_payload<P: Calls>(sd: &mut Sd<P>, seed: u64, number: u64, out: &mut Vec<u8>) {
+    let mut r = Random::of(seed, family::PAYLOAD, number);
+    let (discard, slots) = (r.once_in(2), slots(&mut r));
+    if r.once_in(4) {
+        inputs::message(&mut r, out);
+        sd.message(out, discard, slots);
+    } else {
+        inputs::payload(&mut r, out);
+        sd.payload(out, discard, slots);
+    }
+}
+
+/// An options part for the index alone, with two runs of any kind.
+fn one_index<P: Calls>(sd: &mut Sd<P>, seed: u64, number: u64, out: &mut Vec<u8>) {
+    let mut r = Random::of(seed, family::INDEX, number);
+    inputs::options(&mut r, out);
+    let runs = [
+        (r.below(12) as u8, r.byte() & 0x0f),
+        (r.byte(), r.byte() & 0x0f),
+    ];
+    sd.index(out, slots(&mut r), runs);
+}
+
+/// An entry, an option and a string alone.
+fn one_alone<P: Calls>(sd: &mut Sd<P>, seed: u64, number: u64, out: &mut Vec<u8>) {
+    let mut r = Random::of(seed, family::ALONE, number);
+    inputs::entry(&mut r, out);
+    sd.entry(out);
+    inputs::option(&mut r, out);
+    sd.option(out);
+    inputs::string(&mut r, out);
+    sd.string(out);
+}
+
+/// Tables that no index filled.
+fn one_foreign<P: Calls>(sd: &mut Sd<P>, seed: u64, number: u64, out: &mut Vec<u8>) {
+    let mut r = Random::of(seed, family::FOREIGN, number);
+    inputs::options(&mut r, out);
+    let size = r.pick(&[0, 1, 3, 8, 346, 347, 348, 400]);
+    let reach = out.len() + 3;
+    let table: Vec<u16> = (0..size)
+        .map(|_| {
+            if r.once_in(20) {
+                r.next() as u16
+            } else {
+                r.below(reach) as u16
+            }
+        })
+        .collect();
+    for _ in 0..4 {
+        let ordinal = match r.below(4) {
+            0 => r.pick(&[345, 346, 347, 348, 399, 400]),
+            _ => r.below(size + 2),
+        };
+        let count = match r.below(4) {
+            0 => ordinal,
+            1 => 1000,
+            _ => ordinal + 1,
+        };
+        sd.foreign_table(out, &table, count, ordinal);
+    }
+    let short = out.len().min(15);
+    sd.short_message(&out[..short]);
+}
+
+/// A seeded sequence inside the comparison domain.
+pub fn one_sequence<P: Calls>(tp: &mut Tp<P>, seed: u64, number: u64) {
+    let mut r = Random::of(seed, family::SEQUENCE, number);
+    tp.sequence(&tp_inputs::sequence(&mut r));
+}
+
+/// A sequence outside it, where document 01 alone says what is due.
+fn one_short<P: Calls>(tp: &mut Tp<P>, seed: u64, number: u64) {
+    let mut r = Random::of(seed, family::SHORT, number);
+    let sequence = tp_inputs::sequence(&mut r);
+    if sequence.limit > 4096 {
+        return;
+    }
+    let short = r.below(sequence.limit as usize + 17);
+    let limit = r.pick(&[0, 16, 65_519, 65_520, 65_521, 65_536, u32::MAX]);
+    tp.by_document(&sequence, short, limit);
+}
+
+fn with_sd<P: Calls>(
+    port: &P,
+    plan: &Plan,
+    count: u64,
+    one: fn(&mut Sd<P>, u64, u64, &mut Vec<u8>),
+) -> Tally {
+    spread(plan.threads, count, |block| {
+        let (mut sd, mut out) = (Sd::new(port), Vec::new());
+        for number in block {
+            one(&mut sd, plan.seed, number, &mut out);
+        }
+        sd.tally
+    })
+}
+
+fn with_tp<P: Calls>(port: &P, plan: &Plan, count: u64, one: fn(&mut Tp<P>, u64, u64)) -> Tally {
+    spread(plan.threads, count, |block| {
+        let mut tp = Tp::new(port);
+        for number in block {
+            one(&mut tp, plan.seed, number);
+        }
+        tp.tally
+    })
+}
+
+/// Every string of up to two bytes, every string of up to five telling bytes, and at length all of three bytes.
+fn all_strings<P: Calls>(port: &P, plan: &Plan) -> Tally {
+    let bytes: Vec<u8> = (0..=255).collect();
+    let mut lists = vec![(&bytes[..], 0..=2)];
+    lists.push((
+        &inputs::TELLING,
+        3..=if plan.exhaustive == Exhaustive::Long {
+            6
+        } else {
+            5
+        },
+    ));
+    if plan.exhaustive == Exhaustive::Long {
+        lists.push((&bytes[..], 3..=3));
+    }
+    let mut whole = Tally::default();
+    for (alphabet, lengths) in lists {
+        for length in lengths {
+            let count = (alphabet.len() as u64).pow(length as u32);
+            whole.add(spread(plan.threads, count, |block| {
+                let (mut sd, mut out) = (Sd::new(port), Vec::new());
+                for number in block {
+                    inputs::nth_string(alphabet, length, number as usize, &mut out);
+                    sd.string(&out);
+                }
+                sd.tally
+            }));
+        }
+    }
+    whole
+}
+
+/// All short sequences over a small set of segments, and every order of the cut messages.
+fn all_sequences<P: Calls>(port: &P, plan: &Plan) -> Tally {
+    let mut whole = Tally::default();
+    for length in 0..=if plan.exhaustive == Exhaustive::Long {
+        4
+    } else {
+        3
+    } {
+        let count = (tp_inputs::LETTERS as u64).pow(length as u32);
+        whole.add(spread(plan.threads, count, |block| {
+            let mut tp = Tp::new(port);
+            for number in block {
+                tp.sequence(&tp_inputs::nth_sequence(length, number as usize));
+            }
+            tp.tally
+        }));
+    }
+    let orders = tp_inputs::orders(6);
+    let count = orders.len() * tp_inputs::ORDERED.len();
+    whole.add(spread(plan.threads, count as u64, |block| {
+        let mut tp = Tp::new(port);
+        for number in block {
+            let number = number as usize;
+            let pieces = tp_inputs::ORDERED[number / orders.len()];
+            tp.sequence(&tp_inputs::ordered_sequence(
+                pieces,
+                &orders[number % orders.len()],
+            ));
+        }
+        tp.tally
+    }));
+    whole
+}
+
+/// Every short option and every short entry.
+fn all_short<P: Calls>(port: &P, plan: &Plan) -> Tally {
+    let (options, entries) = (inputs::SHORT_OPTIONS, inputs::SHORT_ENTRIES);
+    let mut whole = with_sd(port, plan, options as u64, |sd, _, number, out| {
+        inputs::nth_option(number as usize, out);
+        sd.option(out);
+    });
+    whole.add(with_sd(port, plan, entries as u64, |sd, _, number, out| {
+        inputs::nth_entry(number as usize, out);
+        sd.entry(out);
+    }));
+    whole
+}
+
+/// The service discovery side.
+pub fn service_discovery<P: Calls>(port: &P, plan: &Plan) -> Tally {
+    let mut whole = with_sd(port, plan, plan.payloads, one_payload);
+    whole.add(with_sd(port, plan, plan.payloads / 10, one_index));
+    whole.add(with_sd(port, plan, plan.payloads / 10, one_alone));
+    whole.add(with_sd(port, plan, plan.payloads / 50, one_foreign));
+    if plan.exhaustive > Exhaustive::None {
+        whole.add(all_strings(port, plan));
+        whole.add(all_short(port, plan));
+    }
+    whole
+}
+
+/// The side of the streams.
+pub fn streams<P: Calls>(port: &P, plan: &Plan) -> Tally {
+    let mut whole = with_tp(port, plan, plan.sequences, one_sequence);
+    whole.add(with_tp(port, plan, plan.sequences / 20, one_short));
+    if plan.exhaustive > Exhaustive::None {
+        whole.add(all_sequences(port, plan));
+    }
+    whole
+}
+
+#[cfg(test)]
+mod tests {
+    use super::*;
+    use crate::standin::StandIn;
+
+    const SMALL: Plan = Plan {
+        seed: 1,
+        payloads: 50_000,
+        sequences: 10_000,
+        exhaustive: Exhaustive::Short,
+        threads: 2,
+    };
+
+    #[test]
+    fn the_stand_in_agrees() {
+        for tally in [
+            service_discovery(&StandIn, &SMALL),
+            streams(&StandIn, &SMALL),
+        ] {
+            assert_eq!(tally.differences, 0, "{}", tally.first.join("\n"));
+            assert!(tally.compared.total() > 100_000);
+        }
+    }
+
+    /// Every refusal that the crate can give comes up in a run of this size, and every one that only the document has.
+    #[test]
+    fn every_number_comes_up() {
+        let mut tally = service_discovery(&StandIn, &SMALL);
+        tally.add(streams(&StandIn, &SMALL));
+        for number in (0..=8)
+            .chain(10..=20)
+            .chain([31, 32, 33, 37])
+            .chain(91..=96)
+        {
+            assert!(tally.answers.contains_key(&number), "{number}");
+        }
+        for number in [21, 22, 30, 34, 35, 36, 38] {
+            assert!(tally.by_document.contains_key(&number), "{number}");
+        }
+    }
+}
