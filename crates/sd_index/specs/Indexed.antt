@@ -10,8 +10,7 @@ use Rattle.sd_format.specs.Settings.{Settings}
 use Rattle.sd_format.specs.Sequences.{starts}
 use Rattle.sd_format.specs.Frames.{Frame, size, permit, all-options, read-options, lent, table-after}
 use Rattle.refusal.specs.Said.{said}
-use Rattle.sd_option.specs.Permits.{permit-said}
-use Rattle.sd_index.specs.Said.{index-said}
+use Rattle.sd_index.specs.Said.{permission-said, index-said}
 use Rattle.sd_index.specs.declared.reading.IndexAnswer.{IndexAnswer}
 use Rattle.sd_index.specs.declared.reading.Swept.{Swept}
 use Rattle.sd_index.specs.declared.reading.Swept.the-variants as run
@@ -29,6 +28,6 @@ indexed g s = refuse index-too-large (length s) when ltb 1388 (length s) else re
 -- otherwise the first refusal, and a table whose slots past 347 are as they were.
 abbrev pub Sweeps : Settings → List ℕ → List ℕ → List ℕ → Swept → Type 0
 Sweeps g s tab tab′ (run.Done count p) =
-    (fs : List Frame) × (all-options s ≡ accepted fs) × (length fs ≡ count) × (permit-said p ≡ each (permit g) fs)
+    (fs : List Frame) × (all-options s ≡ accepted fs) × (length fs ≡ count) × (permission-said p ≡ each (permit g) fs)
     × (tab′ ≡ starts size 0 fs ++ drop count tab)
 Sweeps g s tab tab′ (run.Refused r) = (all-options s ≡ refused (said r)) × (length tab′ ≡ length tab) × (drop 347 tab′ ≡ drop 347 tab)
