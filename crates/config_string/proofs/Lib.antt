@@ -1,3 +1,4 @@
 pub mod KeyLaws
-pub mod Parts
+pub mod ItemLaws
+pub mod ItemsHanded
 pub mod OneAnswer

@@ -12,6 +12,8 @@ abbrev pub answered : StringAnswer → Verdict
 answered Valid = pass
 answered (Refused error) = refused (saidString error)
 
+-- ---- two parts of the key rule, for the functions inside that answer them
+
 -- key bytes lie in 0x20 to 0x7e
 abbrev pub key-byte : ℕ → Bool
 key-byte b = leb 0x20 b && leb b 0x7e

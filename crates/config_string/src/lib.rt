@@ -1,12 +1,14 @@
 // The check of a configuration string: items of a length byte and that many bytes, closed by a zero length byte, which must be the last byte.
 // One function for each rule of document 01, all with the same answer; an item's bytes are looked at once, and no further than its key.
+use refusal::Refusal;
 use refusal::StringError;
 ghost use mathlib.Core.Path.{_≡_};
 ghost use mathlib.Core.Bool.{_&&_};
 ghost use lib.Dec.{eqb};
-ghost use Rattle.numbers.specs.Answers.{verdict};
+ghost use Rattle.numbers.specs.Answers.{given, verdict};
 ghost use Rattle.sd_format.specs.Strings.{key-of, judge-key, judge-item, closed, read-string};
 ghost use Rattle.config_string.specs.Answered.{answered, key-byte, judge-end};
+ghost use Rattle.config_string.specs.Items.{next-item, past, itemAnswered, part-of};
 
 // What a string is found to be, and an item or a key of it. Below, `at` is the place of the item's length byte, which the errors give.
 pub enum StringAnswer {
@@ -116,4 +118,44 @@ pub fn check_string(s: &[u8]) -> StringAnswer
         at = start + size as usize;
     }
     StringAnswer::Refused(StringError::MissingTerminator)
+}
+
+// ---- a cursor over the items: a place in the string, in by value and back
+
+// The cursor stands behind the item that it found, or is refused and stays.
+pub enum ItemAnswer {
+    Item { next: usize },
+    Refused(Refusal),
+}
+
+// The item at a place of a string: where the next one stands; 20 at the terminator and with no bytes left.
+pub fn next_item(s: &[u8], at: usize) -> ItemAnswer
+    ensures { λ r. ⌜ itemAnswered r ≡ given (past at) (next-item (now (s .entry)) at) ⌝ }
+{
+    if s.len() <= at {
+        return ItemAnswer::Refused(Refusal::NothingThere);
+    }
+    let size = s[at];
+    if size == 0 {
+        return ItemAnswer::Refused(Refusal::NothingThere);
+    }
+    let start = at + 1;
+    match check_item(at, size, &s[start..]) {
+        StringAnswer::Valid => ItemAnswer::Item {
+            next: start + size as usize,
+        },
+        StringAnswer::Refused(error) => ItemAnswer::Refused(Refusal::ConfigurationString(error)),
+    }
+}
+
+// The bytes of that item, as a part of the string; none on a refusal.
+pub fn item_part(s: &[u8], at: usize) -> &[u8]
+    ensures { λ r. ⌜ now r ≡ part-of (next-item (now (s .entry)) at) ⌝ }
+{
+    let answer = next_item(s, at);
+    let ItemAnswer::Item { next } = answer else {
+        return &s[..0];
+    };
+    let start = at + 1;
+    &s[start..next]
 }

@@ -6,7 +6,7 @@ use mathlib.Core.List.{List, [], _∷_}
 use mathlib.Core.Logic.{_↔_}
 use native.Mathlib.Omega.{arith}
 use Rattle.numbers.specs.Refusals.{Refusal}
-use Rattle.numbers.specs.Answers.{Answer, accepted, refused, Verdict, pass, _>>=_, _>>_, refuse_when_else_, each, All}
+use Rattle.numbers.specs.Answers.{Answer, accepted, refused, Verdict, pass, _>>=_, _>>_, refuse_when_else_, each, given, All}
 
 module _ {A : Type 0} where
   pub when-hit : (r : Refusal) (b : Bool) (a : Answer A) → b ≡ true → (refuse r when b else a) ≡ refused r
@@ -23,6 +23,9 @@ module _ {A : Type 0} where
   pub accepted-inj : (x y : A) → accepted x ≡ accepted y → x ≡ y
   accepted-inj x y e = cc
 
+  pub refused-inj : (r q : Refusal) → _≡_ {A = Answer A} (refused r) (refused q) → r ≡ q
+  refused-inj r q e = cc
+
   pub when-accepted : (r : Refusal) (b : Bool) (a : Answer A) (x : A) → (refuse r when b else a) ≡ accepted x → (b ≡ false) × (a ≡ accepted x)
   unfolding refuse_when_else_
   when-accepted r true a x e = not-refused r x e
@@ -37,6 +40,11 @@ module _ {A B : Type 0} where
   pub bind-pass : (m : Answer A) (f : A → Answer B) (x : A) → m ≡ accepted x → (m >>= f) ≡ f x
   unfolding _>>=_
   bind-pass m f x e = rw e
+
+  pub given-accepted : (f : A → B) (m : Answer A) (y : B) → given f m ≡ accepted y → (x : A) × (m ≡ accepted x) × (f x ≡ y)
+  unfolding given
+  given-accepted f (accepted x) y e = (x, refl, accepted-inj (f x) y e)
+  given-accepted f (refused r) y e = not-refused r y e
 
 module _ {B : Type 0} where
   pub then-accepted : (v : Verdict) (a : Answer B) (y : B) → (v >> a) ≡ accepted y → (v ≡ pass) × (a ≡ accepted y)

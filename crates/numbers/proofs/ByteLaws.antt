@@ -4,12 +4,25 @@ use mathlib.Core.List.{List, [], _∷_, _++_}
 use Prim.Native.Nat.{ℕ, zero, suc, _+_, _*_, _/_, _%_, _-_, _≤_, _<_, zero-le, suc-le-suc}
 use native.Mathlib.Nat.{add-assoc, add-zero, le-of-suc-le-suc, not-suc-le-zero}
 use native.Mathlib.Omega.{arith}
-use lib.ListN.{length, take, drop, getD}
+use lib.ListN.{length, take, drop, getD, take-append-drop}
 use lib.Seq.{getD-drop}
 use Rattle.numbers.specs.Bytes.{Bytes, be16, be24, be32, at16, at24, at32}
 
 pub bytes-drop : (s : List ℕ) (n : ℕ) → Bytes s → Bytes (drop n s)
 bytes-drop s n b i = rw getD-drop (b (n + i))
+
+-- the parts of bytes are bytes
+pub bytes-left : (a b : List ℕ) → Bytes (a ++ b) → Bytes a
+bytes-left [] b h i = omega arith
+bytes-left (x ∷ a) b h zero = h 0
+bytes-left (x ∷ a) b h (suc i) = bytes-left a b (λ k. h (suc k)) i
+
+pub bytes-right : (a b : List ℕ) → Bytes (a ++ b) → Bytes b
+bytes-right [] b h = h
+bytes-right (x ∷ a) b h = bytes-right a b (λ k. h (suc k))
+
+pub bytes-take : (s : List ℕ) (n : ℕ) → Bytes s → Bytes (take n s)
+bytes-take s n b = bytes-left (take n s) (drop n s) (rw take-append-drop b)
 
 -- a number that stands at `i`, as bytes
 pub be16-at : (s : List ℕ) (i : ℕ) → Bytes s → be16 (at16 s i) ≡ getD s i 0 ∷ getD s (i + 1) 0 ∷ []

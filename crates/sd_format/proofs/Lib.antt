@@ -1,1 +1,12 @@
+pub mod BitLaws
+pub mod SequenceLaws
 pub mod StringLaws
+pub mod FrameLaws
+pub mod KindLaws
+pub mod FieldLaws
+pub mod OptionLaws
+pub mod EntryLaws
+pub mod PayloadLaws
+pub mod Demand3
+pub mod Cases
+pub mod CallLaws

@@ -41,6 +41,10 @@ pub closed-trailing : (at : ℕ) (rest : List ℕ) → (length rest ≡ 0 → �
 unfolding closed
 closed-trailing at rest more = when-hit (trailing-data at) (not (eqb (length rest) 0)) (accepted []) (ap not (ne-eqb (length rest) 0 more))
 
+pub closed-nothing : (at : ℕ) (rest : List ℕ) (items : List (List ℕ)) → closed at rest ≡ accepted items → items ≡ []
+unfolding closed
+closed-nothing at rest items e = sym (accepted-inj [] items (when-accepted (trailing-data at) (not (eqb (length rest) 0)) (accepted []) items e .1))
+
 pub at-item : (at n : ℕ) (rest : List ℕ) → (n ≡ 0 → ⊥)
     → items-from at 0 (n ∷ rest) ≡ (judge-item at n rest >> (items-from (at + 1) n rest >>= λ items. accepted (take n rest ∷ items)))
 unfolding items-from
@@ -253,8 +257,7 @@ unfolding closed layItems
 closed-laid at rest items e =
     let w = when-accepted (trailing-data at) (not (eqb (length rest) 0)) (accepted []) items e in
     let none : rest ≡ [] = no-length rest (eqb-true _ _ (not-false _ (w .0))) in
-    let here : [] ≡ items = accepted-inj [] items (w .1) in
-    rw (sym here, none) (tt, refl)
+    rw (closed-nothing at rest items e, none) (tt, refl)
 
 item-laid : (n : ℕ) (rest : List ℕ) (later : List (List ℕ)) → n ≤ length rest → GoodItem (take n rest) → ItemsLaid later (drop n rest) → ItemsLaid (take n rest ∷ later) (n ∷ rest)
 unfolding layItems

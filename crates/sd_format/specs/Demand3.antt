@@ -1,17 +1,21 @@
 -- Demand 3 and what belongs to it, as statements; proofs/Demand3.antt proves them. Assumes nothing: these are definitions.
-use Prim.Native.Nat.{ℕ, _≤_}
+use Prim.Native.Nat.{ℕ, _<_, _≤_}
 use mathlib.Core.Path.{_≡_}
+use mathlib.Core.Bool.{true}
 use mathlib.Core.Logic.{_↔_}
-use mathlib.Core.List.{List, map}
+use mathlib.Core.List.{List, [], _∷_, _++_, map}
 use lib.ListN.{length, take, drop}
-use Rattle.numbers.specs.Answers.{Answer, accepted, given, All}
+use Rattle.numbers.specs.Refusals.{Refusal, refusal}
+use Rattle.numbers.specs.Answers.{Answer, accepted, refused, given, All}
 use Rattle.sd_format.specs.Settings.{Settings}
 use Rattle.sd_format.specs.Sequences.{HandsOut, behind, counted}
+use Rattle.sd_format.specs.Options.{Opt}
 use Rattle.sd_format.specs.Strings.{read-string}
-use Rattle.sd_format.specs.Frames.{size, slots, table-after, look-up, next-option, next-of-run, along}
-use Rattle.sd_format.specs.Entries.{sixteen, next-entry}
-use Rattle.sd_format.specs.Layout.{GoodItem, layItems, Payload, lay, Fits, wire}
-use Rattle.sd_format.specs.Payload.{entries-part, options-part, read-payload, frames-of, handed-out}
+use Rattle.sd_format.specs.Frames.{size, slots, lent, table-after, read-index, look-up, next-option, next-of-run, along}
+use Rattle.sd_format.specs.Fields.{fields}
+use Rattle.sd_format.specs.Entries.{Head, sixteen, next-entry}
+use Rattle.sd_format.specs.Layout.{GoodItem, layItems, OptionFits, layOptions, wire, RunFits, Payload, lay, Fits, Header, layHeader}
+use Rattle.sd_format.specs.Payload.{entries-part, options-part, read-payload, frames-of, shown, handed-out, read-message}
 
 -- `p` fits the conditions, and its layout is `s`
 abbrev pub LaidOut : Settings → List ℕ → Payload → Type 0
@@ -41,6 +45,27 @@ pub record CursorsAgree (g : Settings) (s : List ℕ) (p : Payload) : Type 0 whe
   pub runs : (tab : List ℕ) → slots ≤ length tab → (start count : ℕ)
       → HandsOut (next-of-run (options-part s) (table-left g s tab) (length (p .options))) along (record { next = start; left = count })
       (take count (drop start (map wire (p .options))))
+
+-- 22 exactly when the lent table has under 347 slots
+pub record LentExactly {A : Type 0} (tab : List ℕ) (a : Answer A) : Type 0 where
+  pub short : length tab < 347 → lent tab a ≡ refused (refusal 22 (length tab ∷ []))
+  pub enough : 347 ≤ length tab → lent tab a ≡ a
+
+-- the index alone: at most 1,388 bytes that are options laid out, unknown ones whether they may be discarded or not
+pub record IndexExact (s : List ℕ) : Type 0 where
+  pub handed : (os : List Opt) → (given (map fields) (read-index s) ≡ accepted os)
+      ↔ ((length s ≤ 1388) × All (OptionFits (record { discard = true })) os × (layOptions os ≡ s))
+
+-- the message: a header with a session that is not 0, and a payload laid out behind it
+pub record MessageExact (g : Settings) (s : List ℕ) : Type 0 where
+  pub handed : (p : Payload) → (given shown (read-message g s) ≡ accepted p)
+      ↔ ((h : Header) × (h .session ≡ 0 → ⊥) × Fits g p × (layHeader h ++ lay p ≡ s))
+
+-- what a refusal of an entry's runs says: which run leaves the list of `n` options, the first before the second
+pub data RunsRefused (n : ℕ) (h : Head) : Refusal → Type 0 where
+  first-run : (RunFits n (h .start1) (h .count1) → ⊥) → RunsRefused n h (refusal 12 (1 ∷ h .start1 ∷ h .count1 ∷ n ∷ []))
+  second-run : RunFits n (h .start1) (h .count1) → (RunFits n (h .start2) (h .count2) → ⊥)
+      → RunsRefused n h (refusal 12 (2 ∷ h .start2 ∷ h .count2 ∷ n ∷ []))
 
 -- a configuration string is accepted exactly when some list of items with good keys, laid out and closed, gives those bytes
 pub record StringsExact (s : List ℕ) : Type 0 where

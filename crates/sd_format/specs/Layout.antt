@@ -172,3 +172,16 @@ pub record Fits (g : Settings) (p : Payload) : Type 0 where
   pub all-short : length (lay p) ≤ 1400
   pub entries-fit : All (EntryFits (length (p .options))) (p .entries)
   pub options-fit : All (OptionFits g) (p .options)
+
+-- ---- the message
+
+-- what an SD header may hold freely: its length field and protocol version are not judged here, and its session is not 0
+pub record Header : Type 0 where
+  pub length-field : ℕ
+  pub session : ℕ
+  pub protocol-version : ℕ
+
+-- message id, length, client 0, session, protocol version, interface version 1, type 0x02, return code 0
+unfoldable pub layHeader : Header → List ℕ
+layHeader h =
+    be32 0xffff8100 ++ (be32 (h .length-field) ++ (be16 0 ++ (be16 (h .session) ++ (h .protocol-version ∷ 1 ∷ 0x02 ∷ 0 ∷ []))))

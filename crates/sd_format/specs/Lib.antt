@@ -9,3 +9,4 @@ pub mod Entries
 pub mod Layout
 pub mod Payload
 pub mod Demand3
+pub mod Cases

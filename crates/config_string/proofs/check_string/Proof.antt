@@ -5,15 +5,15 @@ use mathlib.Core.Path.{_≡_, sym, ap, _∙_}
 use mathlib.Core.List.{List}
 use native.Mathlib.Omega.{arith}
 use borrow.Author.Needs.{needs}
-use lib.ListN.{length, getD, drop, length-drop}
+use lib.ListN.{length, getD, drop}
 use Rattle.numbers.specs.Answers.{given, verdict}
 use Rattle.refusal.specs.Said.{saidString}
 use Rattle.sd_format.specs.Strings.{closed, judge-item, read-string}
-use Rattle.sd_format.proofs.StringLaws.{items-left, left-whole, left-end, left-terminator, left-refused, left-good, item-passes}
+use Rattle.sd_format.proofs.StringLaws.{items-left, left-whole, left-end, left-terminator, left-refused, left-good}
 use Rattle.config_string.specs.declared.StringAnswer.{StringAnswer}
 use Rattle.config_string.specs.declared.StringAnswer.the-variants.{Valid}
 use Rattle.config_string.specs.Answered.{answered}
-use Rattle.config_string.proofs.Parts.{take-rest}
+use Rattle.config_string.proofs.ItemLaws.{take-rest, judged, within}
 use Rattle.config_string.proofs.check_string.Statement.{statement}
 use Rattle.config_string.proofs.check_string.Tie as tie
 
@@ -78,11 +78,11 @@ module _ (c : tie.After-check-item Inv-loop μ-loop) where
   abbrev at : ℕ
   at = turn .before .loop .at
 
-  judged : (a : StringAnswer) → c .check-item .result ≡ a → judge-item at (getD s at 0) (drop (at + 1) s) ≡ answered a
-  judged a told = ap (judge-item at (getD s at 0)) (sym (take-rest s (at + 1))) ∙ sym (c .check-item .ensures) ∙ ap answered told
+  item-judged : (a : StringAnswer) → c .check-item .result ≡ a → judge-item at (getD s at 0) (drop (at + 1) s) ≡ answered a
+  item-judged a told = judged s at (getD s at 0) (c .check-item .ensures) told
 
-  within : c .check-item .result ≡ Valid → getD s at 0 ≤ length s - (at + 1)
-  within told = simp length-drop at (item-passes at (getD s at 0) (drop (at + 1) s) .0 (judged Valid told) .0)
+  item-within : c .check-item .result ≡ Valid → getD s at 0 ≤ length s - (at + 1)
+  item-within told = within s at (getD s at 0) (item-judged Valid told)
 
 enum-told : tie.Need-enum-told Inv-loop μ-loop
 enum-told c = search needs
@@ -98,13 +98,13 @@ returns-2 c =
     let told = c .enum-told2 .given in
     ap answered (told .1)
     ∙ sym (turn item .before .loop .inv
-    ∙ ap verdict (left-refused (s item) (at item) (turn item .loop-test .taken) some (saidString (told .0 .0)) (judged item _ (told .1))))
+    ∙ ap verdict (left-refused (s item) (at item) (turn item .loop-test .taken) some (saidString (told .0 .0)) (item-judged item _ (told .1))))
 
 cast-at : tie.Need-cast-at Inv-loop μ-loop
-cast-at c = omega (arith, within (c .before .before) (c .enum-told .given .1))
+cast-at c = omega (arith, item-within (c .before .before) (c .enum-told .given .1))
 
 add-at : tie.Need-add-at Inv-loop μ-loop
-add-at c = omega (arith, within (c .before .before) (c .enum-told .given .1))
+add-at c = omega (arith, item-within (c .before .before) (c .enum-told .given .1))
 
 loop-less : tie.Need-loop-less Inv-loop μ-loop
 loop-less c = omega arith
@@ -113,7 +113,7 @@ loop-again : tie.Need-loop-again Inv-loop μ-loop
 loop-again c =
     let item = c .before .before in
     let some = item .before .before .if1 .left in
-    turn item .before .loop .inv ∙ left-good (s item) (at item) (turn item .loop-test .taken) some (judged item _ (c .enum-told .given .1))
+    turn item .before .loop .inv ∙ left-good (s item) (at item) (turn item .loop-test .taken) some (item-judged item _ (c .enum-told .given .1))
 
 returns-3 : tie.Need-returns-3 Inv-loop μ-loop
 unfolding given

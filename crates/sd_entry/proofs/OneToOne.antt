@@ -1,0 +1,109 @@
+-- Each promise of this crate allows one outcome: the code's entries, answers and verdicts are kept apart by what is said of them.
+-- Assumes nothing.
+use Prim.Native.Nat.{ℕ}
+use mathlib.Core.Path.{_≡_, refl, sym, ap, _∙_}
+use mathlib.Core.List.{List}
+use Rattle.numbers.specs.Refusals.{Refusal}
+use Rattle.numbers.specs.Answers.{Answer, accepted, refused, Verdict, verdict}
+use Rattle.numbers.proofs.AnswerLaws.{accepted-inj, not-refused}
+use Rattle.sd_format.specs.Entries.{Head, Group, Entry, find, offer, subscribe, subscribe-ack, head-of, read-entry, judge-runs, placed-entry}
+use Rattle.refusal.proofs.OneToOne.{one-to-one}
+use Rattle.sd_entry.specs.Said.{saidHead, saidGroup, saidEntry, saidAnswer, saidVerdict}
+use Rattle.sd_entry.specs.Steps.{Stepped}
+use Rattle.sd_entry.specs.declared.SdServiceEntryType.the-variants.{FindService, OfferService}
+use Rattle.sd_entry.specs.declared.EventGroupEntryType.the-variants.{SubscribeOrStop, SubscribeAckOrNack}
+use Rattle.sd_entry.specs.declared.EntryHead.{EntryHead}
+use Rattle.sd_entry.specs.declared.EventGroup.{EventGroup}
+use Rattle.sd_entry.specs.declared.SdEntry.{SdEntry}
+use Rattle.sd_entry.specs.declared.SdEntry.the-variants.{Service, Eventgroup}
+use Rattle.sd_entry.specs.declared.EntryAnswer.{EntryAnswer}
+use Rattle.sd_entry.specs.declared.EntryAnswer.the-variants.{Good, Refused}
+use Rattle.sd_entry.specs.declared.runs.EntryVerdict.{EntryVerdict}
+use Rattle.sd_entry.specs.declared.runs.EntryVerdict.the-variants as judged
+use Rattle.sd_entry.specs.declared.cursor.EntryCursor.{EntryCursor}
+use Rattle.sd_entry.specs.declared.cursor.EntryStep.{EntryStep}
+
+-- ---- a way back from what is said of an entry
+
+head-back : Head → EntryHead
+head-back h =
+    record {
+      «start_index_options_1» = h .start1;
+      «start_index_options_2» = h .start2;
+      «number_of_options_1» = h .count1;
+      «number_of_options_2» = h .count2;
+      «service_id» = h .service;
+      «instance_id» = h .instance;
+      «major_version» = h .major;
+      ttl = h .ttl;
+    }
+
+group-back : Group → EventGroup
+group-back g =
+    record {
+      reserved = g .reserved;
+      «initial_data_requested» = g .initial-data;
+      spare = g .spare;
+      counter = g .counter;
+      «eventgroup_id» = g .eventgroup;
+    }
+
+entry-back : Entry → SdEntry
+entry-back (find h m) = Service FindService (head-back h) m
+entry-back (offer h m) = Service OfferService (head-back h) m
+entry-back (subscribe h g) = Eventgroup SubscribeOrStop (head-back h) (group-back g)
+entry-back (subscribe-ack h g) = Eventgroup SubscribeAckOrNack (head-back h) (group-back g)
+
+back : (e : SdEntry) → entry-back (saidEntry e) ≡ e
+unfolding entry-back head-back group-back
+back (Service FindService h m) = refl
+back (Service OfferService h m) = refl
+back (Eventgroup SubscribeOrStop h g) = refl
+back (Eventgroup SubscribeAckOrNack h g) = refl
+
+-- ---- one-to-one
+
+pub head-one-to-one : (x y : EntryHead) → saidHead x ≡ saidHead y → x ≡ y
+unfolding head-back
+head-one-to-one x y same = ap head-back same
+
+pub entry-one-to-one : (x y : SdEntry) → saidEntry x ≡ saidEntry y → x ≡ y
+entry-one-to-one x y same = sym (back x) ∙ ap entry-back same ∙ back y
+
+refused-inj : {A : Type 0} (r q : Refusal) → _≡_ {A = Answer A} (refused r) (refused q) → r ≡ q
+refused-inj r q e = cc
+
+pub answer-one-to-one : (x y : EntryAnswer) → saidAnswer x ≡ saidAnswer y → x ≡ y
+answer-one-to-one (Good d) (Good e) same = ap Good (entry-one-to-one d e (accepted-inj _ _ same))
+answer-one-to-one (Good d) (Refused q) same = not-refused _ _ (sym same)
+answer-one-to-one (Refused r) (Good e) same = not-refused _ _ same
+answer-one-to-one (Refused r) (Refused q) same = ap Refused (one-to-one r q (refused-inj _ _ same))
+
+pub verdict-one-to-one : (x y : EntryVerdict) → saidVerdict x ≡ saidVerdict y → x ≡ y
+verdict-one-to-one judged.Passed judged.Passed same = refl
+verdict-one-to-one judged.Passed (judged.Refused q) same = not-refused _ _ (sym same)
+verdict-one-to-one (judged.Refused r) judged.Passed same = not-refused _ _ same
+verdict-one-to-one (judged.Refused r) (judged.Refused q) same = ap judged.Refused (one-to-one r q (refused-inj _ _ same))
+
+-- ---- any two outcomes that a promise allows are the same
+
+pub read-entry-only : (s : List ℕ) (x y : EntryAnswer) → saidAnswer x ≡ read-entry s → saidAnswer y ≡ read-entry s → x ≡ y
+read-entry-only s x y p q = answer-one-to-one x y (p ∙ sym q)
+
+pub head-only : (e : SdEntry) (x y : EntryHead) → saidHead x ≡ head-of (saidEntry e) → saidHead y ≡ head-of (saidEntry e) → x ≡ y
+head-only e x y p q = head-one-to-one x y (p ∙ sym q)
+
+pub judge-runs-only : (n : ℕ) (h : EntryHead) (x y : EntryVerdict) → saidVerdict x ≡ judge-runs n (saidHead h) → saidVerdict y ≡ judge-runs n (saidHead h) → x ≡ y
+judge-runs-only n h x y p q = verdict-one-to-one x y (p ∙ sym q)
+
+pub judge-entry-only : (n : ℕ) (s : List ℕ) (x y : EntryVerdict) → saidVerdict x ≡ verdict (placed-entry n s) → saidVerdict y ≡ verdict (placed-entry n s) → x ≡ y
+judge-entry-only n s x y p q = verdict-one-to-one x y (p ∙ sym q)
+
+pub next-only : (s : List ℕ) (at : ℕ) (x y : EntryStep) → Stepped s at x → Stepped s at y → x ≡ y
+next-only s at x y p q =
+    let answer = answer-one-to-one (x .answer) (y .answer) (p .answer ∙ sym (q .answer)) in
+    let place = p .cursor ∙ sym (q .cursor) in
+    λ i. record { answer = answer i; cursor = record { at = place i } }
+
+pub new-only : (x y : EntryCursor) → x .at ≡ 0 → y .at ≡ 0 → x ≡ y
+new-only x y p q = λ i. record { at = (p ∙ sym q) i }

@@ -1,0 +1,65 @@
+-- The code's entries and answers as those of the definitions. Assumes nothing: these are definitions.
+use Prim.Native.Nat.{ℕ}
+use Rattle.numbers.specs.Answers.{Answer, accepted, refused, Verdict, pass}
+use Rattle.sd_format.specs.Entries.{Head, Group, Entry, find, offer, subscribe, subscribe-ack}
+use Rattle.refusal.specs.Said.{said}
+use Rattle.sd_entry.specs.declared.SdServiceEntryType.{SdServiceEntryType}
+use Rattle.sd_entry.specs.declared.SdServiceEntryType.the-variants.{FindService, OfferService}
+use Rattle.sd_entry.specs.declared.EventGroupEntryType.{EventGroupEntryType}
+use Rattle.sd_entry.specs.declared.EventGroupEntryType.the-variants.{SubscribeOrStop, SubscribeAckOrNack}
+use Rattle.sd_entry.specs.declared.EntryHead.{EntryHead}
+use Rattle.sd_entry.specs.declared.EventGroup.{EventGroup}
+use Rattle.sd_entry.specs.declared.SdEntry.{SdEntry}
+use Rattle.sd_entry.specs.declared.SdEntry.the-variants.{Service, Eventgroup}
+use Rattle.sd_entry.specs.declared.EntryAnswer.{EntryAnswer}
+use Rattle.sd_entry.specs.declared.EntryAnswer.the-variants.{Good, Refused}
+use Rattle.sd_entry.specs.declared.runs.EntryVerdict.{EntryVerdict}
+use Rattle.sd_entry.specs.declared.runs.EntryVerdict.the-variants as judged
+
+abbrev pub saidHead : EntryHead → Head
+saidHead h =
+    record {
+      start1 = h .«start_index_options_1»;
+      start2 = h .«start_index_options_2»;
+      count1 = h .«number_of_options_1»;
+      count2 = h .«number_of_options_2»;
+      service = h .«service_id»;
+      instance = h .«instance_id»;
+      major = h .«major_version»;
+      ttl = h .ttl;
+    }
+
+abbrev pub saidGroup : EventGroup → Group
+saidGroup g =
+    record {
+      reserved = g .reserved;
+      initial-data = g .«initial_data_requested»;
+      spare = g .spare;
+      counter = g .counter;
+      eventgroup = g .«eventgroup_id»;
+    }
+
+abbrev pub saidService : SdServiceEntryType → Head → ℕ → Entry
+saidService FindService = find
+saidService OfferService = offer
+
+abbrev pub saidEventgroup : EventGroupEntryType → Head → Group → Entry
+saidEventgroup SubscribeOrStop = subscribe
+saidEventgroup SubscribeAckOrNack = subscribe-ack
+
+abbrev pub saidEntry : SdEntry → Entry
+saidEntry (Service type h minor) = saidService type (saidHead h) minor
+saidEntry (Eventgroup type h g) = saidEventgroup type (saidHead h) (saidGroup g)
+
+abbrev pub saidAnswer : EntryAnswer → Answer Entry
+saidAnswer (Good e) = accepted (saidEntry e)
+saidAnswer (Refused r) = refused (said r)
+
+abbrev pub saidVerdict : EntryVerdict → Verdict
+saidVerdict judged.Passed = pass
+saidVerdict (judged.Refused r) = refused (said r)
+
+-- a head of two runs alone
+abbrev pub only-runs : (start1 start2 count1 count2 : ℕ) → Head
+only-runs start1 start2 count1 count2 =
+    record { start1 = start1; start2 = start2; count1 = count1; count2 = count2; service = 0; instance = 0; major = 0; ttl = 0 }

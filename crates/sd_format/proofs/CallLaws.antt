@@ -1,0 +1,131 @@
+-- What the calls around a payload accept: a table that is lent, the index alone, the message with its header. Assumes nothing.
+use mathlib.Core.Path.{_≡_, refl, sym, ap, _∙_, subst}
+use mathlib.Core.Bool.{Bool, true, false, not}
+use mathlib.Core.Logic.{_↔_}
+use mathlib.Core.List.{List, [], _∷_, _++_, append-assoc, map}
+use Prim.Native.Nat.{ℕ, _+_, _*_, _/_, _%_, _-_, _≤_, _<_}
+use native.Mathlib.Omega.{arith}
+use lib.ListN.{length, take, drop, getD, length-append, take-append-drop}
+use lib.Seq.{drop-at}
+use borrow.Author.Tests.{ltb-false, eqb-true, eqb-false, lt-ltb, le-ltb, ne-eqb}
+use Rattle.numbers.specs.Answers.{Answer, accepted, refused, pass, _>>=_, _>>_, refuse_when_else_, each, given, All}
+use Rattle.numbers.specs.Bytes.{Bytes, be16, be32, at16, at32}
+use Rattle.numbers.proofs.AnswerLaws.{when-hit, when-pass, when-accepted, given-accepted, then-accepted, then-pass, test-accepted, refuse-pass}
+use Rattle.numbers.proofs.ByteLaws.{bytes-drop, be16-at, be32-at, take-tab}
+use Rattle.sd_format.specs.Settings.{Settings}
+use Rattle.sd_format.specs.Options.{Opt}
+use Rattle.sd_format.specs.Kinds.{Kind, configuration, load-balancing, address, unknown, kind-of}
+use Rattle.sd_format.specs.Frames.{Frame, permitted, all-options, read-options, slots, lent, read-index}
+use Rattle.sd_format.specs.Fields.{fields}
+use Rattle.sd_format.specs.Layout.{OptionFits, layOptions, wire, Payload, lay, Fits, Header, layHeader}
+use Rattle.sd_format.specs.Payload.{Reading, read-payload, shown, handed-out, header, read-message}
+use Rattle.sd_format.specs.Demand3.{LentExactly, IndexExact, MessageExact}
+use Rattle.sd_format.proofs.OptionLaws.{read-parts, options-lay, options-read, options-own}
+use Rattle.sd_format.proofs.PayloadLaws.{lay-handed}
+use Rattle.sd_format.proofs.Demand3.{demand3}
+
+-- ---- the lent table
+
+pub lent-exactly : {A : Type 0} (tab : List ℕ) (a : Answer A) → LentExactly tab a
+unfolding lent slots
+lent-exactly tab a =
+    record {
+      short = λ h. when-hit _ _ a (lt-ltb (length tab) 347 h);
+      enough = λ h. when-pass _ _ a (le-ltb (length tab) 347 h);
+    }
+
+-- ---- the index alone
+
+abbrev any-unknown : Settings
+any-unknown = record { discard = true }
+
+always : (k : Kind) (body : List ℕ) → permitted any-unknown k body ≡ true
+unfolding permitted
+always configuration body = refl
+always load-balancing body = refl
+always (address family role) body = refl
+always unknown body = refl
+
+all-always : (fs : List Frame) → All (λ f. permitted any-unknown (kind-of (f .type)) (f .body) ≡ true) fs
+all-always [] = tt
+all-always (f ∷ fs) = (always (kind-of (f .type)) (f .body), all-always fs)
+
+pub index-exact : (s : List ℕ) → Bytes s → IndexExact s
+unfolding read-index given refuse_when_else_
+index-exact s b =
+    record {
+      handed = λ os. (
+        (λ e.
+            let (fs, read, own) = given-accepted (map fields) _ os e in
+            let (long, all-read) = when-accepted _ _ _ _ read in
+            let (fits, laid, back) = options-read any-unknown s b fs (read-parts any-unknown s fs .1 (all-read, all-always fs)) in
+            subst (λ (l : List Opt). (length s ≤ 1388) × All (OptionFits any-unknown) l × (layOptions l ≡ s)) own (ltb-false 1388 (length s) long, fits, laid)),
+        (λ h.
+            let read : read-options any-unknown s ≡ accepted (map wire os) = rw (← (h .2)) (options-lay any-unknown os (h .1)) in
+            rw (le-ltb 1388 (length s) (h .0), read-parts any-unknown s (map wire os) .0 read .0) (ap accepted (options-own any-unknown os (h .1)))),
+      );
+    }
+
+-- ---- the message
+
+-- the bytes of a header, laid out again
+sixteen-again : (s : List ℕ) → Bytes s → 16 ≤ length s
+    → be32 (at32 s 0) ++ (be32 (at32 s 4) ++ (be16 (at16 s 8) ++ (be16 (at16 s 10) ++ (getD s 12 0 ∷ getD s 13 0 ∷ getD s 14 0 ∷ getD s 15 0 ∷ [])))) ≡ take 16 s
+sixteen-again s b long =
+    rw (take-tab 16 s long, be32-at s 0 b, be16-at s 0 b, be16-at s 2 b, be32-at s 4 b, be16-at s 4 b, be16-at s 6 b, be16-at s 8 b, be16-at s 10 b)
+
+header-again : (s : List ℕ) → Bytes s → 16 ≤ length s → at32 s 0 ≡ 0xffff8100 → at16 s 8 ≡ 0 → getD s 13 0 ≡ 1 → getD s 14 0 ≡ 0x02 → getD s 15 0 ≡ 0
+    → layHeader (record { length-field = at32 s 4; session = at16 s 10; protocol-version = getD s 12 0 }) ≡ take 16 s
+unfolding layHeader
+header-again s b long id client version type code =
+    sym (λ i. be32 (id i) ++ (be32 (at32 s 4) ++ (be16 (client i) ++ (be16 (at16 s 10) ++ (getD s 12 0 ∷ version i ∷ type i ∷ code i ∷ [])))))
+    ∙ sixteen-again s b long
+
+-- a header is read from its layout
+header-lay : (h : Header) (rest : List ℕ) → (h .session ≡ 0 → ⊥) → header (layHeader h ++ rest) ≡ pass
+unfolding header layHeader be32 be16 at32 at16 refuse_when_else_
+header-lay h rest some =
+    let session : h .session / 256 * 256 + h .session % 256 ≡ h .session = omega arith in
+    rw (le-ltb (length (layHeader h ++ rest)) 16 (omega arith), session, ne-eqb (h .session) 0 some)
+
+-- the header that these bytes are
+abbrev header-of : List ℕ → Header
+header-of s = record { length-field = at32 s 4; session = at16 s 10; protocol-version = getD s 12 0 }
+
+header-says : (s : List ℕ) → Bytes s → header s ≡ pass → (at16 s 10 ≡ 0 → ⊥) × (16 ≤ length s) × (layHeader (header-of s) ≡ take 16 s)
+unfolding header
+header-says s b e =
+    let (a1, e1) = when-accepted _ _ _ _ e in
+    let (a2, e2) = test-accepted _ _ _ _ .0 e1 in
+    let (a3, e3) = test-accepted _ _ _ _ .0 e2 in
+    let (a4, e4) = when-accepted _ _ _ _ e3 in
+    let (a5, e5) = test-accepted _ _ _ _ .0 e4 in
+    let (a6, e6) = test-accepted _ _ _ _ .0 e5 in
+    let a7 = refuse-pass _ _ .0 e6 in
+    let long : 16 ≤ length s = ltb-false (length s) 16 a1 in (
+      eqb-false (at16 s 10) 0 a4,
+      long,
+      header-again s b long (eqb-true (at32 s 0) 0xffff8100 a2) (eqb-true (at16 s 8) 0 a3) (eqb-true (getD s 13 0) 1 a5) (eqb-true (getD s 14 0) 0x02 a6) (eqb-true (getD s 15 0) 0 a7),
+    )
+
+length-header : (h : Header) → length (layHeader h) ≡ 16
+unfolding layHeader be32 be16
+length-header h = refl
+
+pub message-exact : (g : Settings) (s : List ℕ) → Bytes s → MessageExact g s
+unfolding read-message handed-out given
+message-exact g s b =
+    record {
+      handed = λ p. (
+        (λ e.
+            let (r, read, same) = given-accepted shown _ p e in
+            let (head, later) = then-accepted _ _ _ read in
+            let (some, long, again) = header-says s b head in
+            let (fits, laid) = demand3 g (drop 16 s) (bytes-drop s 16 b) .handed p .0 (ap (given shown) later ∙ ap accepted same) in
+            (header-of s, some, fits, rw (again, laid) (take-append-drop 16 s))),
+        (λ h.
+            rw (← (h .3))
+            (ap (given shown) (then-pass _ _ (header-lay (h .0) (lay p) (h .1)))
+            ∙ rw (drop-at (layHeader (h .0)) (lay p) 16 (length-header (h .0))) (lay-handed g p (h .2)))),
+      );
+    }

@@ -1,0 +1,74 @@
+-- The table of kinds against the layout's own type codes and lengths. Assumes nothing.
+use mathlib.Core.Path.{_≡_, refl, sym, ap, _∙_}
+use mathlib.Core.Bool.{Bool, true, false}
+use mathlib.Core.List.{List, [], _∷_}
+use Prim.Native.Nat.{ℕ}
+use lib.Dec.{eqb}
+use borrow.Author.Tests.{ne-eqb, eqb-true, eqb-false}
+use Rattle.sd_format.specs.Options.{Family, ipv4, ipv6, Role, endpoint, multicast, sd-endpoint}
+use Rattle.sd_format.specs.Kinds.{Row, row, configuration, load-balancing, address, unknown, exactly, one-or-more, kinds, row-in, row-of}
+use Rattle.sd_format.specs.Layout.{layType, layLength, Unknown}
+
+-- ---- the rows, by what the layout writes
+
+pub row-configuration : row-of 0x01 ≡ row 0x01 configuration one-or-more
+unfolding row-of row-in kinds
+row-configuration = refl
+
+pub row-load-balancing : row-of 0x02 ≡ row 0x02 load-balancing (exactly 5)
+unfolding row-of row-in kinds
+row-load-balancing = refl
+
+pub row-address : (family : Family) (role : Role) → row-of (layType family role) ≡ row (layType family role) (address family role) (exactly (layLength family))
+unfolding row-of row-in kinds
+row-address ipv4 endpoint = refl
+row-address ipv4 multicast = refl
+row-address ipv4 sd-endpoint = refl
+row-address ipv6 endpoint = refl
+row-address ipv6 multicast = refl
+row-address ipv6 sd-endpoint = refl
+
+pub row-unknown : (type : ℕ) → Unknown type → row-of type ≡ row type unknown one-or-more
+unfolding row-of row-in kinds
+row-unknown type u =
+    rw (
+      ne-eqb type 0x01 (u .not-configuration),
+      ne-eqb type 0x02 (u .not-load-balancing),
+      ne-eqb type 0x04 (u .not-address ipv4 endpoint),
+      ne-eqb type 0x14 (u .not-address ipv4 multicast),
+      ne-eqb type 0x24 (u .not-address ipv4 sd-endpoint),
+      ne-eqb type 0x06 (u .not-address ipv6 endpoint),
+      ne-eqb type 0x16 (u .not-address ipv6 multicast),
+      ne-eqb type 0x26 (u .not-address ipv6 sd-endpoint),
+    )
+
+-- ---- a type is one that the layout writes, or unknown
+
+is {ℓ} : {X : Type ℓ} (a b : ℕ) → (a ≡ b → X) → ((a ≡ b → ⊥) → X) → X
+is {X = X} a b same other = go (eqb a b) refl
+  where
+    go : (t : Bool) → eqb a b ≡ t → X
+    go true e = same (eqb-true a b e)
+    go false e = other (eqb-false a b e)
+
+pub type-cases {ℓ} : {X : Type ℓ} (type : ℕ) → (type ≡ 0x01 → X) → (type ≡ 0x02 → X)
+    → ((family : Family) (role : Role) → type ≡ layType family role → X) → (Unknown type → X) → X
+type-cases type conf load addr other =
+    is type 0x01 conf (λ n1.
+    is type 0x02 load (λ n2.
+    is type 0x04 (addr ipv4 endpoint) (λ n4.
+    is type 0x14 (addr ipv4 multicast) (λ n14.
+    is type 0x24 (addr ipv4 sd-endpoint) (λ n24.
+    is type 0x06 (addr ipv6 endpoint) (λ n6.
+    is type 0x16 (addr ipv6 multicast) (λ n16.
+    is type 0x26 (addr ipv6 sd-endpoint) (λ n26.
+    other (record { not-configuration = n1; not-load-balancing = n2; not-address = not-any n4 n14 n24 n6 n16 n26 })))))))))
+  where
+    not-any : (type ≡ 0x04 → ⊥) → (type ≡ 0x14 → ⊥) → (type ≡ 0x24 → ⊥) → (type ≡ 0x06 → ⊥) → (type ≡ 0x16 → ⊥) → (type ≡ 0x26 → ⊥)
+        → (family : Family) (role : Role) → type ≡ layType family role → ⊥
+    not-any n4 n14 n24 n6 n16 n26 ipv4 endpoint = n4
+    not-any n4 n14 n24 n6 n16 n26 ipv4 multicast = n14
+    not-any n4 n14 n24 n6 n16 n26 ipv4 sd-endpoint = n24
+    not-any n4 n14 n24 n6 n16 n26 ipv6 endpoint = n6
+    not-any n4 n14 n24 n6 n16 n26 ipv6 multicast = n16
+    not-any n4 n14 n24 n6 n16 n26 ipv6 sd-endpoint = n26

@@ -1,0 +1,207 @@
+-- The options part: what is accepted is what is laid out; looking up is counting; what the run cursor hands out. Assumes nothing.
+use mathlib.Core.Path.{_≡_, refl, sym, ap, _∙_, subst}
+use mathlib.Core.Bool.{Bool, true, false}
+use mathlib.Core.Logic.{_↔_}
+use mathlib.Core.List.{List, [], _∷_, _++_, map}
+use Prim.Native.Nat.{ℕ, zero, suc, _+_, _*_, _-_, _≤_, _<_}
+use native.Mathlib.Omega.{arith}
+use lib.ListN.{length, take, drop, getD, length-append, length-drop, replicate, length-replicate, List·getD-append, drop-of-length-le}
+use lib.Dec.{eqb, leb}
+use borrow.Author.Tests.{lt-leb, le-ltb, leb-true, leb-false, ne-eqb}
+use Rattle.numbers.specs.Refusals.{nothing-there}
+use Rattle.numbers.specs.Answers.{Answer, accepted, refused, pass, _>>=_, _>>_, refuse_when_else_, each, given, All}
+use Rattle.numbers.specs.Bytes.{Bytes, be16}
+use Rattle.numbers.proofs.AnswerLaws.{when-hit, when-pass, accepted-inj, bind-accepted, bind-pass, then-accepted, then-pass, refuse-pass, each-pass}
+use Rattle.numbers.proofs.ByteLaws.{bytes-left, bytes-right}
+use Rattle.sd_format.specs.Settings.{Settings}
+use Rattle.sd_format.specs.Sequences.{all, starts, counted, HandsOut, ended, gave}
+use Rattle.sd_format.specs.Options.{Opt}
+use Rattle.sd_format.specs.Kinds.{Kind, configuration, load-balancing, address, unknown, kind-of, judge-length, judge-text, judge-kind, row-of, scanned, unscanned}
+use Rattle.sd_format.specs.Frames.{Frame, size, one-option, read-option, permitted, permit, all-options, read-options, slots, zeros, filled, table-after, misfit, look-up, Run, next-of-run, along}
+use Rattle.sd_format.specs.Fields.{fields}
+use Rattle.sd_format.specs.Layout.{layAll, layOption, layOptions, wire, OptionFits}
+use Rattle.sd_format.proofs.SequenceLaws.{all-exact, lay-all, all-count, counted-past, counted-in, counted-drop, length-starts, read-start}
+use Rattle.sd_format.proofs.FrameLaws.{layFrame, length-frame, Sound, option-lay, option-says, option-within}
+use Rattle.sd_format.proofs.FieldLaws.{Wired, wired, shown}
+
+-- ---- all options, as type and bytes
+
+pub all-frames : (s : List ℕ) → Bytes s → (fs : List Frame) → (all-options s ≡ accepted fs) ↔ (All (Sound scanned) fs × (layAll layFrame fs ≡ s))
+unfolding all-options
+all-frames s b fs =
+    all-exact read-option size layFrame (Sound scanned)
+    (option-lay scanned)
+    (λ t f bytes e. let w = option-says scanned t f e in (w .0, w .1 .again bytes))
+    (λ f w. length-frame f)
+    (λ f w. omega arith)
+    s b fs
+
+frames-lay : (fs : List Frame) → All (Sound scanned) fs → all-options (layAll layFrame fs) ≡ accepted fs
+unfolding all-options
+frames-lay fs w =
+    lay-all read-option size layFrame (Sound scanned) (option-lay scanned)
+    (λ t f bytes e. let v = option-says scanned t f e in (v .0, v .1 .again bytes))
+    (λ f v. length-frame f)
+    (λ f v. omega arith)
+    fs w
+
+-- the bodies of bytes are bytes
+bodies : (fs : List Frame) → Bytes (layAll layFrame fs) → All (λ f. Bytes (f .body)) fs
+unfolding layAll layFrame be16
+bodies [] b = tt
+bodies (f ∷ fs) b =
+    ((λ i. bytes-left (layFrame f) (layAll layFrame fs) b (suc (suc (suc i)))), bodies fs (bytes-right (layFrame f) (layAll layFrame fs) b))
+
+-- an option has four bytes or more
+pub few-options : (s : List ℕ) (fs : List Frame) → all-options s ≡ accepted fs → 4 * length fs ≤ length s
+unfolding all-options
+few-options s fs e = all-count read-option size 4 (omega arith) (option-within scanned) s fs e
+
+abbrev Permitted : Settings → Frame → Type 0
+Permitted g f = permitted g (kind-of (f .type)) (f .body) ≡ true
+
+permits-all : (g : Settings) (fs : List Frame) → (each (permit g) fs ≡ pass) ↔ All (Permitted g) fs
+unfolding permit
+permits-all g fs = each-pass (permit g) (Permitted g) (λ f. refuse-pass _ _) fs
+
+-- the options read, in two steps
+pub read-parts : (g : Settings) (s : List ℕ) (fs : List Frame) → (read-options g s ≡ accepted fs) ↔ ((all-options s ≡ accepted fs) × All (Permitted g) fs)
+unfolding read-options
+read-parts g s fs = (
+  (λ e.
+      let (qs, all-read, e2) = bind-accepted _ _ _ e in
+      let (may, same) = then-accepted _ _ _ e2 in
+      subst (λ (l : List Frame). (all-options s ≡ accepted l) × All (Permitted g) l) (accepted-inj qs fs same) (all-read, permits-all g qs .0 may)),
+  (λ h. bind-pass _ _ fs (h .0) ∙ then-pass _ _ (permits-all g fs .1 (h .1))),
+)
+
+-- ---- all options, by their kinds' own fields
+
+module _ (g : Settings) where
+  -- lists of options that fit, and of frames that are sound and permitted, give each other back
+  wired-all : (os : List Opt) → All (OptionFits g) os
+      → All (Sound scanned) (map wire os) × All (Permitted g) (map wire os) × (layAll layFrame (map wire os) ≡ layOptions os) × (map fields (map wire os) ≡ os)
+  unfolding layAll
+  wired-all [] h = (tt, tt, refl, refl)
+  wired-all (o ∷ os) h =
+      let w = wired g o (h .0) in
+      let (sound, may, lay, own) = wired-all os (h .1) in
+      ((w .sound, sound), (w .may, may), rw (w .layout, lay), rw (w .own, own))
+
+  shown-all : (fs : List Frame) → All (λ f. Bytes (f .body)) fs → All (Sound scanned) fs → All (Permitted g) fs
+      → All (OptionFits g) (map fields fs) × (map wire (map fields fs) ≡ fs)
+  shown-all [] b w m = (tt, refl)
+  shown-all (f ∷ fs) b w m =
+      let (fits, back) = shown g f (b .0) (w .0) (m .0) in
+      let (all-fit, all-back) = shown-all fs (b .1) (w .1) (m .1) in
+      ((fits, all-fit), rw (back, all-back))
+
+  -- what is laid out is read, as the frames of those options
+  pub options-lay : (os : List Opt) → All (OptionFits g) os → read-options g (layOptions os) ≡ accepted (map wire os)
+  options-lay os h =
+      let (sound, may, lay, own) = wired-all os h in
+      rw (← lay) (read-parts g _ (map wire os) .1 (frames-lay (map wire os) sound, may))
+
+  -- what is read is laid out by its fields
+  pub options-read : (s : List ℕ) → Bytes s → (fs : List Frame) → read-options g s ≡ accepted fs
+      → All (OptionFits g) (map fields fs) × (layOptions (map fields fs) ≡ s) × (map wire (map fields fs) ≡ fs)
+  options-read s b fs e =
+      let (all-read, may) = read-parts g s fs .0 e in
+      let (sound, lay) = all-frames s b fs .0 all-read in
+      let (fits, back) = shown-all fs (bodies fs (rw lay b)) sound may in
+      let (_, _, same, _) = wired-all (map fields fs) fits in
+      (fits, sym same ∙ ap (layAll layFrame) back ∙ lay, back)
+
+  -- the fields of what was laid out are its own
+  pub options-own : (os : List Opt) → All (OptionFits g) os → map fields (map wire os) ≡ os
+  options-own os h = wired-all os h .3
+
+-- ---- looking up is counting
+
+-- lookup judges no more than the reading
+unscanned-text : (k : Kind) (body : List ℕ) → judge-text unscanned k body ≡ pass
+unfolding judge-text
+unscanned-text configuration body = refl
+unscanned-text load-balancing body = refl
+unscanned-text (address family role) body = refl
+unscanned-text unknown body = refl
+
+unscanned-option : (s : List ℕ) (f : Frame) → one-option scanned s ≡ accepted f → one-option unscanned s ≡ accepted f
+unfolding one-option judge-kind
+unscanned-option s f e =
+    let (p, framed, e2) = bind-accepted _ _ _ e in
+    let (judged, same) = then-accepted _ _ _ e2 in
+    bind-pass _ _ p framed ∙ then-pass _ _ (then-pass _ _ (then-accepted _ _ _ judged .0) ∙ unscanned-text (kind-of (p .type)) (p .body)) ∙ same
+
+length-zeros : (n : ℕ) → length (zeros n) ≡ n
+unfolding zeros
+length-zeros n = length-replicate n 0
+
+module _ (s : List ℕ) (fs : List Frame) (e : all-options s ≡ accepted fs) (short : length s ≤ 1388) (tab : List ℕ) (long : slots ≤ length tab) where
+  abbrev T : List ℕ
+  T = table-after tab (accepted fs)
+
+  few : length fs ≤ slots
+  unfolding slots
+  few = omega (arith, few-options s fs e)
+
+  table-is : T ≡ (starts size 0 fs ++ zeros (slots - length fs)) ++ drop slots tab
+  unfolding table-after filled
+  table-is = rw (le-ltb (length tab) slots long)
+
+  table-long : length T ≡ length tab
+  table-long = rw table-is (simp (length-append, length-starts, length-zeros, length-drop) (omega (arith, few)))
+
+  slot : (k : ℕ) → k < length fs → getD T k 0 ≡ getD (starts size 0 fs) k 0
+  slot k h =
+      rw table-is
+      (List·getD-append (starts size 0 fs ++ zeros (slots - length fs)) (drop slots tab) 0 k (simp (length-append, length-starts) (omega arith))
+      ∙ List·getD-append (starts size 0 fs) (zeros (slots - length fs)) 0 k (rw length-starts h))
+
+  here : (k : ℕ) → k < length fs → look-up s T (length fs) k ≡ misfit (one-option unscanned (drop (getD T k 0) s))
+  unfolding look-up
+  here k h =
+      when-pass _ _ _ (lt-leb (length fs) k h) ∙ when-pass _ _ _ (lt-leb slots k (omega (arith, few)))
+      ∙ when-pass _ _ _ (lt-leb (length T) k (rw table-long (omega (arith, few))))
+
+  -- looking up any number in the table of these options gives what counting from the front gives
+  pub looked-up : (k : ℕ) → look-up s T (length fs) k ≡ counted fs k
+  unfolding look-up misfit all-options
+  looked-up k = go (leb (length fs) k) refl
+    where
+      go : (t : Bool) → leb (length fs) k ≡ t → look-up s T (length fs) k ≡ counted fs k
+      go true p = when-hit _ _ _ p ∙ sym (counted-past fs k (leb-true _ _ p))
+      go false p =
+          let h : k < length fs = leb-false _ _ p in
+          let (f, c) = counted-in fs k h in
+          let read : one-option unscanned (drop (getD T k 0) s) ≡ accepted f =
+          rw (slot k h) (unscanned-option _ f (read-start read-option size 4 (omega arith) (option-within scanned) s 0 fs k f e c)) in
+          here k h ∙ rw (read, c)
+
+  -- ---- the run cursor hands out the counted options of its run
+
+  abbrev Hands : ℕ → ℕ → List Frame → Type 0
+  Hands start left l = HandsOut (next-of-run s T (length fs)) along (record { next = start; left = left }) l
+
+  -- with options left in the run, it answers as counting does
+  in-run : (start count : ℕ) → next-of-run s T (length fs) (record { next = start; left = suc count }) ≡ counted fs start
+  unfolding next-of-run
+  in-run start count = when-pass _ _ _ (ne-eqb (suc count) 0 (λ z. omega arith)) ∙ looked-up start
+
+  one-more : (start count : ℕ) (f : Frame) → counted fs start ≡ accepted f → Hands (start + 1) count (take count (drop (start + 1) fs))
+      → Hands start (suc count) (take (suc count) (drop start fs))
+  one-more start count f c later =
+      let left : count ≡ suc count - 1 = omega arith in
+      rw (counted-drop fs start f c) (gave (in-run start count ∙ c) (subst (λ (n : ℕ). Hands (start + 1) n (take count (drop (start + 1) fs))) left later))
+
+  no-more : (start count : ℕ) → length fs ≤ start → Hands start (suc count) (take (suc count) (drop start fs))
+  no-more start count h = rw (drop-of-length-le fs h) (ended (in-run start count ∙ counted-past fs start h))
+
+  pub run-hands : (start count : ℕ) → Hands start count (take count (drop start fs))
+  unfolding next-of-run
+  run-hands start zero = ended (when-hit _ _ _ refl)
+  run-hands start (suc count) = go (leb (length fs) start) refl (run-hands (start + 1) count)
+    where
+      go : (t : Bool) → leb (length fs) start ≡ t → Hands (start + 1) count (take count (drop (start + 1) fs)) → Hands start (suc count) (take (suc count) (drop start fs))
+      go true p later = no-more start count (leb-true _ _ p)
+      go false p later = let (f, c) = counted-in fs start (leb-false _ _ p) in one-more start count f c later
