@@ -14,11 +14,11 @@ use lib.Dec.{eqb}
 use borrow.Author.Tests.{eqb-true}
 use types.Run.{OneOf, miss}
 use Rattle.numbers.specs.Refusals.{Refusal, nothing-there}
-use Rattle.numbers.specs.Answers.{Answer, accepted, refused, Verdict, pass, _>>=_, given, All, refuse_when_else_}
+use Rattle.numbers.specs.Answers.{Answer, accepted, refused, pass, _>>=_, given, All}
 use Rattle.numbers.specs.Bytes.{at16}
 use Rattle.numbers.proofs.AnswerLaws.{not-refused, accepted-inj, refuse-pass, bind-accepted}
-use Rattle.sd_format.specs.Options.{Family, ipv4, ipv6, Role, endpoint, multicast, sd-endpoint}
-use Rattle.sd_format.specs.Kinds.{Kind, configuration, load-balancing, address, unknown, Length, exactly, one-or-more, Row, row-of, row-in, kinds, kind-of, judge-length, unscanned}
+use Rattle.sd_format.specs.Options.{Family, ipv4, ipv6}
+use Rattle.sd_format.specs.Kinds.{Kind, configuration, load-balancing, address, unknown, Length, exactly, Row, row-of, row-in, kinds, kind-of, judge-length, unscanned}
 use Rattle.sd_format.specs.Frames.{Frame, one-option}
 use Rattle.sd_format.specs.Fields.{asked, of-address, of-load-balancing, of-configuration, width, address-bytes, protocol, port, string}
 use Rattle.refusal.specs.declared.Refusal as code
@@ -34,7 +34,7 @@ use Rattle.sd_option.specs.declared.fields.SizeAnswer.{SizeAnswer}
 use Rattle.sd_option.specs.declared.fields.SizeAnswer.the-variants as size
 use Rattle.sd_option.specs.Fields.{size-said, size-refusal, size-asked, end-of, of-unknown, unknown-type}
 use Rattle.sd_option.proofs.KindLaws.{tag, row-code, is-balancing}
-use Rattle.sd_option.proofs.ReadingLaws.{Framed, Stands, Found, front, body-at, front-length, string-place, found, not-found, read-stands, given-accepted, given-refused}
+use Rattle.sd_option.proofs.ReadingLaws.{Framed, Found, front, body-at, front-length, string-place, not-found, read-stands, given-accepted, given-refused}
 
 -- ---- asked of an option that was read
 
@@ -191,9 +191,9 @@ addressed-by : (s : List ℕ) (w : ℕ) (f : Frame) (fam : Family) → one-optio
 addressed-by s w f fam reads has-f long =
     let t = read-stands unscanned s f reads in
     let has : family-of (kind-of (getD s 2 0)) ≡ some fam = subst (λ (g : Frame). family-of (kind-of (g .type)) ≡ some fam) (t .same) has-f in
-    let room = address-room s (at16 s 0) fam (t .framed .within) (t .fits) has in
-    let wide : w ≡ width fam = long ∙ ap (λ (g : Frame). length (address-bytes fam (g .body))) (t .same) ∙ address-width s (at16 s 0) fam (t .framed .within) room in
-    let n : at16 s 0 ≡ 5 + w = omega arith in
+    let room = address-room s (length (f .body)) fam (t .framed .within) (t .fits) has in
+    let wide : w ≡ width fam = long ∙ ap (λ (g : Frame). length (address-bytes fam (g .body))) (t .same) ∙ address-width s (length (f .body)) fam (t .framed .within) room in
+    let n : length (f .body) ≡ 5 + w = omega arith in
     record {
       family = fam;
       wide = wide;
@@ -382,7 +382,7 @@ module _ (field : Kind → List ℕ → Answer (List ℕ)) (behind : Behind fiel
   stands-behind l e =
       let (f, reads, of-f) = bind-accepted (one-option unscanned s) _ l e in
       let t = read-stands unscanned s f reads in
-      in-place l (at16 s 0) (t .framed) (behind (kind-of (f .type)) (f .body) l of-f ∙ ap (λ (g : Frame). take (length l) (drop 1 (g .body))) (t .same))
+      in-place l (length (f .body)) (t .framed) (behind (kind-of (f .type)) (f .body) l of-f ∙ ap (λ (g : Frame). take (length l) (drop 1 (g .body))) (t .same))
     where
       in-place : (l : List ℕ) (n : ℕ) → Framed s n → l ≡ take (length l) (drop 1 (body-at s n)) → (4 + length l ≤ length s) × (l ≡ take (length l) (drop 4 s))
       in-place l n t e =

@@ -1,16 +1,15 @@
 -- Any two answers that one promise of this crate allows are the same one. (A part is promised byte by byte, so there is nothing to show of it.)
 -- Assumes nothing.
 use Prim.Native.Nat.{ℕ}
-use mathlib.Core.Path.{_≡_, refl, sym, ap, _∙_}
+use mathlib.Core.Path.{_≡_, sym, ap, _∙_}
 use mathlib.Core.Bool.{Bool}
-use native.Mathlib.Omega.{arith}
 use Rattle.numbers.specs.Refusals.{Refusal}
-use Rattle.numbers.specs.Answers.{Answer, accepted, refused}
+use Rattle.numbers.specs.Answers.{Answer, refused}
 use Rattle.numbers.proofs.AnswerLaws.{accepted-inj, not-refused}
 use Rattle.refusal.specs.declared.Refusal as code
 use Rattle.refusal.specs.Said.{said}
 use Rattle.refusal.proofs.OneToOne.{one-to-one}
-use Rattle.sd_format.specs.Kinds.{Row, row-of}
+use Rattle.sd_format.specs.Kinds.{row-of}
 use Rattle.sd_option.specs.declared.kinds.OptionKind.{OptionKind}
 use Rattle.sd_option.specs.declared.reading.OptionHead.{OptionHead}
 use Rattle.sd_option.specs.declared.reading.OptionAnswer.{OptionAnswer}

@@ -1,13 +1,4 @@
 // The reading of one option from the front of a slice: first its frame, then its kind.
-ghost use mathlib.Core.Path.{_≡_};
-ghost use Prim.Native.Nat.{ℕ};
-ghost use mathlib.Core.List.{List};
-ghost use lib.ListN.{length};
-ghost use Rattle.numbers.specs.Answers.{given};
-ghost use Rattle.sd_format.specs.Kinds.{unscanned};
-ghost use Rattle.sd_format.specs.Frames.{frame, one-option, read-option};
-ghost use Rattle.sd_option.specs.Kinds.{row-said};
-ghost use Rattle.sd_option.specs.Reading.{length-said, length-judged, length-refusal, string-refusal, option-refusal, body-length, body-of, part, option-said, head-of};
 use crate::bytes::be16;
 use crate::bytes::is_discardable;
 use crate::kinds::KindLength;
@@ -18,6 +9,15 @@ use config_string::StringAnswer;
 use config_string::check_string;
 use refusal::LengthSource;
 use refusal::Refusal;
+ghost use mathlib.Core.Path.{_≡_};
+ghost use Prim.Native.Nat.{ℕ};
+ghost use mathlib.Core.List.{List};
+ghost use lib.ListN.{length};
+ghost use Rattle.numbers.specs.Answers.{given};
+ghost use Rattle.sd_format.specs.Kinds.{unscanned};
+ghost use Rattle.sd_format.specs.Frames.{frame, one-option, read-option};
+ghost use Rattle.sd_option.specs.Kinds.{row-said};
+ghost use Rattle.sd_option.specs.Reading.{length-said, length-judged, length-refusal, string-refusal, option-refusal, body-length, body-of, part, option-said, head-of};
 
 // What is told of an option: its kind, the discardable bit, and how many bytes it takes, the length and the type among them.
 pub struct OptionHead {
