@@ -123,11 +123,13 @@ no-scan load-balancing body = refl
 no-scan (address family role) body = refl
 no-scan unknown body = refl
 
-after-frame : (text : List ℕ → Verdict) (s : List ℕ) (n : ℕ) → Framed s n → one-option text s ≡ (judge-kind text (getD s 2 0) (body-at s n) >> accepted (front s n))
+after-frame : (text : List ℕ → Verdict) (s : List ℕ) (n : ℕ) → Framed s n
+    → one-option text s ≡ (judge-kind text (getD s 2 0) (body-at s n) >> accepted (front s n))
 unfolding one-option _>>=_
 after-frame text s n t = rw (t .reads)
 
-pub frame-refuses : (s : List ℕ) (a : LengthAnswer) (q r : code.Refusal) → length-said a ≡ given body-length (frame s) → a ≡ len.Refused q → r ≡ length-refusal a → refused (said r) ≡ given head-of (one-option unscanned s)
+pub frame-refuses : (s : List ℕ) (a : LengthAnswer) (q r : code.Refusal) → length-said a ≡ given body-length (frame s) → a ≡ len.Refused q
+    → r ≡ length-refusal a → refused (said r) ≡ given head-of (one-option unscanned s)
 unfolding one-option _>>=_ given
 frame-refuses s a q r told e w =
     let f : frame s ≡ refused (said q) = given-refused body-length (frame s) (said q) (sym (ap length-said e) ∙ told) in
@@ -144,7 +146,8 @@ then-then (accepted u) w a = refl
 then-then (refused q) w a = refl
 
 -- what is told of the frame of `n` bytes
-pub front-head : (s : List ℕ) (n : ℕ) → 1 ≤ n → 3 + n ≤ length s → head-of (front s n) ≡ record { row = row-of (getD s 2 0); discardable = has (getD s 3 0) 0x80; size = 3 + n }
+pub front-head : (s : List ℕ) (n : ℕ) → 1 ≤ n → 3 + n ≤ length s
+    → head-of (front s n) ≡ record { row = row-of (getD s 2 0); discardable = has (getD s 3 0) 0x80; size = 3 + n }
 front-head s n some within =
     let b : getD (take n (drop 3 s)) 0 0 ≡ getD s 3 0 = getD-take n (drop 3 s) 0 0 some ∙ getD-drop 3 s 0 0 in
     rw (b, front-length s n within)
@@ -154,7 +157,8 @@ frame-told s a n told e = frame-accepted s n (sym (ap length-said e) ∙ told)
 
 -- after its frame: its kind's length, then its string
 module _ (s : List ℕ) (n : ℕ) (t : Framed s n) (w : Row) (same : w ≡ row-of (getD s 2 0)) where
-  in-order : (text : List ℕ → Verdict) → one-option text s ≡ (judge-length (w .len) (body-at s n) >> (judge-text text (w .kind) (body-at s n) >> accepted (front s n)))
+  in-order : (text : List ℕ → Verdict)
+      → one-option text s ≡ (judge-length (w .len) (body-at s n) >> (judge-text text (w .kind) (body-at s n) >> accepted (front s n)))
   unfolding judge-kind
   in-order text = after-frame text s n t ∙ then-then (judge-length (row-of (getD s 2 0) .len) (body-at s n)) (judge-text text (kind-of (getD s 2 0)) (body-at s n)) (accepted (front s n)) ∙ rw same
 
@@ -174,7 +178,8 @@ module _ (s : List ℕ) (n : ℕ) (t : Framed s n) (w : Row) (same : w ≡ row-o
         let f = then-accepted (judge-length (w .len) (body-at s n)) (accepted (length (body-at s n))) m (sym (sym (ap length-said e) ∙ told)) in
         in-order unscanned ∙ rw (f .0, no-scan (w .kind) (body-at s n))
 
-    pub head-told : (m : ℕ) → a ≡ len.Good m → (d : Bool) → d ≡ has (getD s 3 0) 0x80 → accepted (record { row = w; discardable = d; size = 3 + n }) ≡ given head-of (one-option unscanned s)
+    pub head-told : (m : ℕ) → a ≡ len.Good m → (d : Bool) → d ≡ has (getD s 3 0) 0x80
+        → accepted (record { row = w; discardable = d; size = 3 + n }) ≡ given head-of (one-option unscanned s)
     unfolding given
     head-told m e d bit = rw (kind-accepts m e, front-head s n (t .some) (t .within), same, bit)
 
@@ -203,7 +208,8 @@ module _ (text : List ℕ → Verdict) (s : List ℕ) where
       let fits = then-accepted (judge-length (row-of (g .type) .len) (g .body)) (judge-text text (kind-of (g .type)) (g .body)) tt judged .0 in
       subst (λ (x : Frame). Stands s (length (x .body)) x) (accepted-inj g f kept) (stands g (frame-front s g framed) fits)
     where
-      stands : (g : Frame) → Framed s (length (g .body)) × (g ≡ front s (length (g .body))) → judge-length (row-of (g .type) .len) (g .body) ≡ pass → Stands s (length (g .body)) g
+      stands : (g : Frame) → Framed s (length (g .body)) × (g ≡ front s (length (g .body))) → judge-length (row-of (g .type) .len) (g .body) ≡ pass
+          → Stands s (length (g .body)) g
       stands g t fits = record { framed = t .0; same = t .1; fits = subst (λ (x : Frame). judge-length (row-of (x .type) .len) (x .body) ≡ pass) (t .1) fits }
 
   found-head : (h : Head) → accepted h ≡ given head-of (one-option text s) → Found text s h
@@ -244,7 +250,8 @@ module _ (text : List ℕ → Verdict) (s : List ℕ) where
 
 -- ---- the string, scanned after all else
 
-rescan : (v t u : Verdict) (f : Frame) (k : Frame → Answer Frame) → u ≡ pass → k f ≡ (t >> accepted f) → ((v >> t) >> accepted f) ≡ (((v >> u) >> accepted f) >>= k)
+rescan : (v t u : Verdict) (f : Frame) (k : Frame → Answer Frame) → u ≡ pass → k f ≡ (t >> accepted f)
+    → ((v >> t) >> accepted f) ≡ (((v >> u) >> accepted f) >>= k)
 unfolding _>>_ _>>=_
 rescan (accepted x) t u f k e w = rw (e, w)
 rescan (refused r) t u f k e w = refl
@@ -258,7 +265,8 @@ rescan-frame text (accepted f) =
     (λ g. judge-text text (kind-of (g .type)) (g .body) >> accepted g) (no-scan (kind-of (f .type)) (f .body)) refl
 rescan-frame text (refused r) = refl
 
-pub rescanned : (text : List ℕ → Verdict) (s : List ℕ) → one-option text s ≡ (one-option unscanned s >>= λ f. judge-text text (kind-of (f .type)) (f .body) >> accepted f)
+pub rescanned : (text : List ℕ → Verdict) (s : List ℕ)
+    → one-option text s ≡ (one-option unscanned s >>= λ f. judge-text text (kind-of (f .type)) (f .body) >> accepted f)
 unfolding one-option
 rescanned text s = rescan-frame text (frame s)
 
@@ -311,6 +319,7 @@ module _ (s : List ℕ) (a : OptionAnswer) (told : option-said a ≡ given head-
       pub string-valid : str ≡ string.Valid → accepted (head-said hd) ≡ given head-of (read-option s)
       string-valid v = scan-passes (judged ∙ ap answered v)
 
-      pub string-refused : (error : StringError) (r : code.Refusal) → str ≡ string.Refused error → r ≡ string-refusal str → refused (said r) ≡ given head-of (read-option s)
+      pub string-refused : (error : StringError) (r : code.Refusal) → str ≡ string.Refused error → r ≡ string-refusal str
+          → refused (said r) ≡ given head-of (read-option s)
       unfolding given _>>_
       string-refused error r v z = rw (scans, judged, z, v)

@@ -19,7 +19,7 @@ ghost use Rattle.sd_format.specs.Frames.{frame, one-option, read-option};
 ghost use Rattle.sd_option.specs.Kinds.{row-said};
 ghost use Rattle.sd_option.specs.Reading.{length-said, length-judged, length-refusal, string-refusal, option-refusal, body-length, body-of, part, option-said, head-of};
 
-// What is told of an option: its kind, the discardable bit, and how many bytes it takes, the length and the type among them.
+// What is told of an option: its kind, the discardable bit, and how many bytes it takes, its length and its type among them.
 pub struct OptionHead {
     pub kind: OptionKind,
     pub discardable: bool,
