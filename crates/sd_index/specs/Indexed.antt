@@ -1,6 +1,7 @@
 -- What is promised of reading an options part into a lent table. Assumes nothing: these are definitions.
 use Prim.Native.Nat.{ℕ}
 use mathlib.Core.Path.{_≡_}
+use mathlib.Core.Bool.{cond}
 use mathlib.Core.List.{List, _++_}
 use lib.ListN.{length, drop}
 use lib.Dec.{ltb}
@@ -8,7 +9,7 @@ use Rattle.numbers.specs.Refusals.{index-too-large}
 use Rattle.numbers.specs.Answers.{Answer, accepted, refused, each, given, refuse_when_else_}
 use Rattle.sd_format.specs.Settings.{Settings}
 use Rattle.sd_format.specs.Sequences.{starts}
-use Rattle.sd_format.specs.Frames.{Frame, size, permit, all-options, read-options, lent, table-after}
+use Rattle.sd_format.specs.Frames.{Frame, size, permit, all-options, read-options, slots, zeros, lent, table-after}
 use Rattle.refusal.specs.Said.{said}
 use Rattle.sd_index.specs.Said.{permission-said, index-said}
 use Rattle.sd_index.specs.declared.reading.IndexAnswer.{IndexAnswer}
@@ -19,6 +20,10 @@ use Rattle.sd_index.specs.declared.reading.Swept.the-variants as run
 pub record Indexed (a : Answer (List Frame)) (tab tab′ : List ℕ) (r : IndexAnswer) : Type 0 where
   pub told : index-said r ≡ given length (lent tab a)
   pub slots : tab′ ≡ table-after tab a
+
+-- the lent table after a refusal
+unfoldable pub cleared : List ℕ → List ℕ
+cleared tab = cond (ltb (length tab) slots) tab (zeros slots ++ drop slots tab)
 
 -- the options under the settings, in no more bytes than a payload can have
 unfoldable pub indexed : Settings → List ℕ → Answer (List Frame)

@@ -9,13 +9,13 @@ use crate::slots::zero_from;
 use refusal::Refusal;
 use sd_option::Offset;
 use sd_option::reading::OptionAnswer;
+use sd_option::reading::option_refusal;
 use sd_option::reading::read_option;
 ghost use mathlib.Core.Path.{_≡_};
 ghost use Prim.Native.Nat.{_≤_};
 ghost use lib.ListN.{length};
 ghost use Rattle.sd_index.specs.Said.{settings-said, swept-refusal};
 ghost use Rattle.sd_index.specs.Indexed.{Sweeps, Indexed, indexed};
-ghost use Rattle.sd_option.specs.Reading.{option-refusal};
 ghost use Rattle.sd_format.specs.Frames.{read-index, table-after};
 
 pub enum IndexAnswer {
@@ -41,16 +41,6 @@ fn slot_of(offset: Offset) -> u16
     offset.0 as u16
 }
 
-// Why an option was refused.
-fn refusal_of(answer: OptionAnswer) -> Refusal
-    ensures { λ r. ⌜ r ≡ option-refusal answer ⌝ }
-{
-    match answer {
-        OptionAnswer::Good(_) => Refusal::NothingThere,
-        OptionAnswer::Refused(refusal) => refusal,
-    }
-}
-
 // One pass over the options: the place of each into the table, from its first slot on.
 fn sweep(settings: Settings, options: &[u8], table: &mut [u16]) -> Swept
     requires { ⌜ (347 ≤ length (now table)) × (length (now options) ≤ 1388) ⌝ }
@@ -62,7 +52,7 @@ fn sweep(settings: Settings, options: &[u8], table: &mut [u16]) -> Swept
     while at < options.len() {
         let answer = read_option(&options[at..]);
         let OptionAnswer::Good(head) = answer else {
-            return Swept::Refused(refusal_of(answer));
+            return Swept::Refused(option_refusal(answer));
         };
         table[count] = slot_of(Offset(at));
         permission = first(permission, permission_of(settings, head));

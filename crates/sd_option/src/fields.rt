@@ -1,10 +1,10 @@
 // The fields of the option in front of a slice, whatever else stands in it. An option of another kind has no such field, which is refusal 20;
 // bytes that hold no option get the refusal of their reading. Configuration strings are not scanned.
-use crate::bytes::be16;
 use crate::kinds::OptionKind;
 use crate::reading::OptionAnswer;
 use crate::reading::option_refusal;
 use crate::reading::read_option_unscanned;
+use big_endian::be16;
 use refusal::Refusal;
 ghost use mathlib.Core.Path.{_≡_};
 ghost use Prim.Native.Nat.{ℕ, _≤_};

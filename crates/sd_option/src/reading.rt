@@ -1,10 +1,10 @@
 // The reading of one option from the front of a slice: first its frame, then its kind.
-use crate::bytes::be16;
 use crate::bytes::is_discardable;
 use crate::kinds::KindLength;
 use crate::kinds::OptionKind;
 use crate::kinds::kind_of;
 use crate::kinds::row_of;
+use big_endian::be16;
 use config_string::StringAnswer;
 use config_string::check_string;
 use refusal::LengthSource;

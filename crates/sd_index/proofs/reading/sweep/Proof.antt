@@ -91,8 +91,8 @@ enum-known-answer c = search needs
 enum-told : tie.Need-enum-told Inv-loop μ-loop
 enum-told c = search needs
 
-refusal-of-requires : tie.Need-refusal-of-requires Inv-loop μ-loop
-refusal-of-requires c κs = search needs
+option-refusal-requires : tie.Need-option-refusal-requires Inv-loop μ-loop
+option-refusal-requires c κs = search needs
 
 same-length : tie.Need-same-length Inv-loop μ-loop
 same-length c = long (c .before .before .before .before .before)
@@ -103,7 +103,7 @@ returns c =
     let i = r .before .before in
     let l = i .before .loop in
     let q = c .before .enum-told .given .0 .0 in
-    let why : c .refusal-of .result ≡ q = c .refusal-of .ensures ∙ ap option-refusal (c .before .enum-told .given .1) in
+    let why : c .option-refusal .result ≡ q = c .option-refusal .ensures ∙ ap option-refusal (c .before .enum-told .given .1) in
     let stops : all-options (S (i .before)) ≡ refused (said q) =
     turn-stops _ _ _ _ _ _ _ (l .inv) (i .loop-test .taken) (said q) (given-refused head-of _ (said q) (sym (ap option-said (c .before .enum-told .given .1)) ∙ told r)) in
     (stops ∙ ap (λ (x : _). refused (said x)) (sym why), long i, turn-past _ _ _ _ _ _ _ (l .inv) (omega (arith, sizes i)) (omega (arith, sizes i)))
@@ -165,7 +165,7 @@ sweep-spec =
     read-option-requires
     enum-known-answer
     enum-told
-    refusal-of-requires
+    option-refusal-requires
     same-length
     returns
     slot-of-requires
