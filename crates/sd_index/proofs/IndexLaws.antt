@@ -73,9 +73,14 @@ module _ (g : Settings) (s : List ℕ) where
   indexed-long h = rw (lt-ltb 1388 (length s) h)
 
   module _ (short : length s ≤ 1388) where
+    -- within a payload the length is never too large
+    pub indexed-is : indexed g s ≡ read-options g s
+    unfolding indexed refuse_when_else_
+    indexed-is = rw (le-ltb 1388 (length s) short)
+
     indexed-short : indexed g s ≡ (all-options s >>= λ fs. each (permit g) fs >> accepted fs)
-    unfolding indexed read-options refuse_when_else_
-    indexed-short = rw (le-ltb 1388 (length s) short)
+    unfolding read-options
+    indexed-short = indexed-is
 
     pub indexed-refused : (r : paper.Refusal) → all-options s ≡ refused r → indexed g s ≡ refused r
     unfolding _>>=_
