@@ -1,0 +1,4 @@
+pub mod Arms
+pub mod WordLaws
+pub mod StreamLaws
+pub mod TpLaws
