@@ -5,6 +5,10 @@ use mathlib.Core.List.{List, [], _∷_}
 use lib.ListN.{getD}
 use Rattle.numbers.specs.Refusals.{Refusal}
 use Rattle.numbers.specs.Answers as paper
+use Rattle.sd_format.specs.Frames.{Frame}
+use Rattle.sd_format.specs.Frames as Frames
+use Rattle.sd_option.specs.Reading.{Head}
+use Rattle.sd_index.specs.Found.{Located}
 use Rattle.hub.specs.declared.answers.Answer.{Answer}
 
 -- a number and its values; places that it does not use hold 0
@@ -26,6 +30,17 @@ no-values a = []
 
 abbrev pub one-value : ℕ → List ℕ
 one-value n = n ∷ []
+
+-- an option that starts at `at`: its type, where it starts, and how many bytes it takes
+abbrev pub head-values : (at : ℕ) → Head → List ℕ
+head-values at h = h .row .code ∷ at ∷ h .size ∷ []
+
+abbrev pub located-values : Located → List ℕ
+located-values l = head-values (l .offset) (l .head)
+
+-- the same of an option as it stands in the part
+abbrev pub option-values : (at : ℕ) → Frame → List ℕ
+option-values at f = f .type ∷ at ∷ Frames.size f ∷ []
 
 -- the report is as long as the message's header and its payload, which ends there
 abbrev pub report-values : ℕ → List ℕ

@@ -1,5 +1,11 @@
 // Answers as numbers: document 01's number, 0 for accepted, and the values that it gives, in their order.
+use config_string::StringAnswer;
 use refusal::Refusal;
+use sd_index::FoundAnswer;
+use sd_index::IndexAnswer;
+use sd_option::kinds::row_of;
+use sd_option::reading::OptionAnswer;
+use sd_option::reading::OptionHead;
 use tp_stream::TpAnswer;
 use tp_stream::TpRefusal;
 use tp_stream::TpTaken;
@@ -8,8 +14,12 @@ ghost use Prim.Native.Nat.{ℕ, _+_};
 ghost use mathlib.Core.List.{[], _∷_};
 ghost use mathlib.Core.Bool.{cond};
 ghost use Rattle.refusal.specs.Said.{said};
+ghost use Rattle.config_string.specs.Answered.{answered};
+ghost use Rattle.sd_option.specs.Reading.{head-said, option-said};
+ghost use Rattle.sd_index.specs.Said.{index-said};
+ghost use Rattle.sd_index.specs.Found.{found-said};
 ghost use Rattle.tp_stream.specs.Saying as tp;
-ghost use Rattle.hub.specs.Answers.{row, no-values, refusal-row, told, report-values};
+ghost use Rattle.hub.specs.Answers.{row, no-values, refusal-row, told, one-value, head-values, located-values, report-values};
 
 // A number, and its values in order; places that it does not use hold 0.
 #[repr(C)]
@@ -78,6 +88,59 @@ pub(crate) fn refused(refusal: Refusal) -> Answer
         values[2] as u64,
         values[3] as u64,
     )
+}
+
+// The answer of a string's check.
+pub(crate) fn string_answer(answer: StringAnswer) -> Answer
+    ensures { λ r. ⌜ r ≡ told no-values (answered answer) ⌝ }
+{
+    match answer {
+        StringAnswer::Valid => none(0),
+        StringAnswer::Refused(error) => refused(Refusal::ConfigurationString(error)),
+    }
+}
+
+// The answer of an index: how many options there are.
+pub(crate) fn index_answer(answer: IndexAnswer) -> Answer
+    ensures { λ r. ⌜ r ≡ told one-value (index-said answer) ⌝ }
+{
+    match answer {
+        IndexAnswer::Good(count) => one(0, count as u64),
+        IndexAnswer::Refused(refusal) => refused(refusal),
+    }
+}
+
+// An option that starts at `at`: its type, where it starts, and how many bytes it takes.
+pub(crate) fn head_answer(head: OptionHead, at: usize) -> Answer
+    ensures { λ r. ⌜ r ≡ row 0 (head-values at (head-said head)) ⌝ }
+{
+    let kind = head.kind;
+    let row = row_of(kind);
+    three(0, row.code as u64, at as u64, head.size as u64)
+}
+
+// The answer of reading the option at `at`.
+pub(crate) fn option_answer(answer: OptionAnswer, at: usize) -> Answer
+    ensures { λ r. ⌜ r ≡ told (head-values at) (option-said answer) ⌝ }
+{
+    match answer {
+        OptionAnswer::Good(head) => head_answer(head, at),
+        OptionAnswer::Refused(refusal) => refused(refusal),
+    }
+}
+
+// The answer of a lookup.
+pub(crate) fn found_answer(answer: FoundAnswer) -> Answer
+    ensures { λ r. ⌜ r ≡ told located-values (found-said answer) ⌝ }
+{
+    match answer {
+        FoundAnswer::Good(found) => {
+            let offset = found.offset;
+            let head = found.head;
+            head_answer(head, offset.0)
+        }
+        FoundAnswer::Refused(refusal) => refused(refusal),
+    }
 }
 
 // A refusal of a stream.
