@@ -3,3 +3,4 @@ pub mod EntryLoop
 pub mod ReadLaws
 pub mod HeaderLaws
 pub mod PartLaws
+pub mod OneOutcome
