@@ -4,3 +4,5 @@ pub mod ReadLaws
 pub mod HeaderLaws
 pub mod PartLaws
 pub mod OneOutcome
+pub mod HandedOut
+pub mod OfTheCode
