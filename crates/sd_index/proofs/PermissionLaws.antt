@@ -3,18 +3,18 @@ use mathlib.Core.Path.{_≡_, refl, sym, ap, _∙_}
 use mathlib.Core.Bool.{Bool, true, false, not, _||_}
 use mathlib.Core.List.{List, [], _∷_}
 use Prim.Native.Nat.{ℕ}
-use types.Run.{OneOf, miss}
+use types.Run.{OneOf}
 use Rattle.numbers.specs.Refusals.{unknown-option}
 use Rattle.numbers.specs.Answers.{Verdict, pass, refused, refuse_when_else_}
 use Rattle.sd_format.specs.Settings.{Settings}
-use Rattle.sd_format.specs.Kinds.{Kind, configuration, load-balancing, address, unknown, row-of, row-in, kinds, kind-of}
+use Rattle.sd_format.specs.Kinds.{Kind, configuration, load-balancing, address, unknown, kind-of}
 use Rattle.sd_format.specs.Frames.{Frame, permitted, permit}
 use Rattle.sd_format.specs.Fields.{discardable}
 use Rattle.sd_option.specs.declared.kinds.OptionKind.{OptionKind}
 use Rattle.sd_option.specs.declared.kinds.OptionKind.the-variants as kind
 use Rattle.sd_option.specs.Kinds.{row-said}
 use Rattle.sd_option.specs.Reading.{Head, head-of}
-use Rattle.sd_option.proofs.KindLaws.{tag, row-code}
+use Rattle.sd_option.proofs.KindLaws.{tag, row-code, known, not-unknown}
 use Rattle.sd_index.specs.Permission.{may, permit-told}
 
 -- ---- by what the reading of one tells
@@ -32,24 +32,19 @@ told-permits g f = rw (row-code (f .type), may-permitted g (kind-of (f .type)) (
 
 -- ---- by the code's kinds
 
-abbrev pub known-kinds : List ℕ
-known-kinds = 0 ∷ 1 ∷ 2 ∷ 3 ∷ 4 ∷ 5 ∷ 6 ∷ 7 ∷ []
+may-known : (g : Settings) (k : Kind) (d : Bool) → (k ≡ unknown → ⊥) → may g k d ≡ true
+may-known g configuration d h = refl
+may-known g load-balancing d h = refl
+may-known g (address family role) d h = refl
+may-known g unknown d h = absurd (h refl)
 
 module _ (g : Settings) (d : Bool) (n : ℕ) where
   abbrev told : OptionKind → Head
   told k = record { row = row-said k; discardable = d; size = n }
 
-  pub known-passes : (k : OptionKind) → OneOf known-kinds (tag k) → pass ≡ permit-told g (told k)
-  unfolding permit-told row-of row-in kinds refuse_when_else_
-  known-passes kind.Configuration o = refl
-  known-passes kind.LoadBalancing o = refl
-  known-passes kind.Ipv4Endpoint o = refl
-  known-passes kind.Ipv4Multicast o = refl
-  known-passes kind.Ipv4SdEndpoint o = refl
-  known-passes kind.Ipv6Endpoint o = refl
-  known-passes kind.Ipv6Multicast o = refl
-  known-passes kind.Ipv6SdEndpoint o = refl
-  known-passes (kind.Unknown t) o = absurd (miss known-kinds 8 tt o)
+  pub known-passes : (k : OptionKind) → OneOf known (tag k) → pass ≡ permit-told g (told k)
+  unfolding permit-told refuse_when_else_
+  known-passes k o = rw (may-known g (row-said k .kind) d (not-unknown k o))
 
   unknown-told : (k : OptionKind) (t : ℕ) → k ≡ kind.Unknown t
       → permit-told g (told k) ≡ (refuse unknown-option t when not (g .discard || d) else pass)

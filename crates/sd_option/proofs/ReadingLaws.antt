@@ -11,6 +11,7 @@ use borrow.Author.Tests.{lt-ltb, le-ltb, eq-eqb, ne-eqb}
 use Rattle.numbers.specs.Refusals.{Refusal, option-length, option-length-zero}
 use Rattle.numbers.specs.Answers.{Answer, accepted, refused, Verdict, pass, _>>=_, _>>_, refuse_when_else_, given}
 use Rattle.numbers.specs.Bytes.{at16}
+use Rattle.numbers.proofs.AnswerLaws as answers
 use Rattle.numbers.proofs.AnswerLaws.{not-refused, accepted-inj, bind-accepted, then-accepted}
 use Rattle.sd_format.specs.Options.{has}
 use Rattle.sd_format.specs.Kinds.{Kind, configuration, load-balancing, address, unknown, Length, exactly, one-or-more, Row, row-of, kind-of, judge-length, judge-text, judge-kind, scanned, unscanned}
@@ -34,14 +35,10 @@ use Rattle.sd_option.specs.Reading.{Head, head-of, head-said, option-sai
 -- ---- what was accepted, in another form
 
 pub given-accepted : {A B : Type 0} (f : A → B) (a : Answer A) (y : B) → accepted y ≡ given f a → (x : A) × (a ≡ accepted x) × (y ≡ f x)
-unfolding given
-given-accepted f (accepted x) y e = (x, refl, accepted-inj y (f x) e)
-given-accepted f (refused r) y e = not-refused r y (sym e)
+given-accepted f a y e = let (x, is, told) = answers.given-accepted f a y (sym e) in (x, is, sym told)
 
 pub given-refused : {A B : Type 0} (f : A → B) (a : Answer A) (r : Refusal) → refused r ≡ given f a → a ≡ refused r
-unfolding given
-given-refused f (accepted x) r e = not-refused r (f x) e
-given-refused f (refused q) r e = let z : r ≡ q = cc in rw z
+given-refused f a r e = answers.given-refused f a r (sym e)
 
 -- ---- the frame
 
