@@ -11,7 +11,7 @@ use Rattle.numbers.specs.Bytes.{Bytes}
 use Rattle.numbers.proofs.AnswerLaws.{when-accepted}
 use Rattle.numbers.proofs.ByteLaws.{bytes-drop}
 use Rattle.sd_format.specs.Settings.{Settings}
-use Rattle.sd_format.specs.Sequences.{next-at, behind, HandsOut, ended, gave}
+use Rattle.sd_format.specs.Sequences.{next-at, behind, stands, HandsOut, ended, gave}
 use Rattle.sd_format.specs.Options.{Opt}
 use Rattle.sd_format.specs.Kinds.{scanned, unscanned}
 use Rattle.sd_format.specs.Frames.{Frame, size, one-option, look-up, next-option, Run, next-of-run, along}
@@ -23,13 +23,13 @@ use Rattle.sd_option.specs.Reading.{head-of, option-said}
 use Rattle.sd_entry.specs.declared.cursor.EntryCursor.{EntryCursor}
 use Rattle.sd_entry.specs.declared.cursor.EntryStep.{EntryStep}
 use Rattle.sd_entry.specs.Said.{saidAnswer}
-use Rattle.sd_entry.specs.Steps as entry
+use Rattle.sd_entry.specs.Steps.{Stepped}
 use Rattle.sd_index.specs.declared.cursor.OptionCursor.{OptionCursor}
 use Rattle.sd_index.specs.declared.cursor.OptionStep.{OptionStep}
 use Rattle.sd_index.specs.declared.cursor.RunCursor.{RunCursor}
 use Rattle.sd_index.specs.declared.cursor.RunStep.{RunStep}
 use Rattle.sd_index.specs.Found.{found-said, by-table, look-up-told}
-use Rattle.sd_index.specs.Steps.{stands, OptionStepped, run-said, RunStepped}
+use Rattle.sd_index.specs.Steps.{OptionStepped, run-said, RunStepped}
 use Rattle.sd_index.proofs.OptionPinned.{slot-reads}
 use Rattle.sd_payload.specs.OfTheCode.{Told, told, told-at, told-found}
 
@@ -74,14 +74,14 @@ drop-map f (suc n) (x ∷ xs) = drop-map f n xs
 
 -- ---- the cursors and lookup, over any bytes
 
-module _ (s : List ℕ) (next : EntryCursor → EntryStep) (meets : (c : EntryCursor) → entry.Stepped s (c .at) (next c)) where
+module _ (s : List ℕ) (next : EntryCursor → EntryStep) (meets : (c : EntryCursor) → Stepped s (c .at) (next c)) where
   pub entries-too : {xs : List Entry} → HandsOut (next-entry s) (behind sixteen) 0 xs → (new : EntryCursor) → new .at ≡ 0
       → HandsOut (λ c. saidAnswer (next c .answer)) (λ e c. next c .cursor) new xs
   entries-too {xs} hands new first =
       subst (HandsOut (λ c. saidAnswer (next c .answer)) (λ e c. next c .cursor) new) (map-id xs)
       (hands-too (next-entry s) (behind sixteen) (λ c. saidAnswer (next c .answer)) (λ c. next c .cursor) (λ c. c .at) (λ e. e)
       (λ c r e. meets c .answer ∙ e)
-      (λ c x e. (meets c .answer ∙ e, meets c .cursor ∙ ap (λ (a : Answer Entry). entry.stands a (c .at)) e))
+      (λ c x e. (meets c .answer ∙ e, meets c .cursor ∙ ap (λ (a : Answer Entry). stands (behind sixteen) a (c .at)) e))
       hands new first)
 
 module _ (s : List ℕ) (b : Bytes s) where
