@@ -1,18 +1,22 @@
--- Each promise of lookup and the cursors allows one outcome. (A part is promised byte by byte, so there is nothing to show of it.)
--- Assumes nothing.
+-- Each promise of this crate allows one outcome: the answer, and the whole lent table where there is one. (A part is promised byte by byte, so
+-- there is nothing to show of it.) Assumes nothing.
 use Prim.Native.Nat.{ℕ}
 use mathlib.Core.Path.{_≡_, refl, sym, ap, _∙_}
 use mathlib.Core.List.{List}
-use Rattle.numbers.specs.Answers.{accepted, given}
+use Rattle.numbers.specs.Answers.{Answer, accepted, given}
 use Rattle.numbers.proofs.AnswerLaws.{accepted-inj, refused-inj, not-refused}
-use Rattle.sd_format.specs.Frames.{Run, next-option}
+use Rattle.sd_format.specs.Frames.{Frame, Run, next-option}
 use Rattle.refusal.proofs.OneToOne.{one-to-one}
 use Rattle.sd_option.specs.declared.reading.OptionHead.{OptionHead}
 use Rattle.sd_option.specs.declared.reading.OptionAnswer.the-variants as option
 use Rattle.sd_option.specs.Reading.{head-said, head-of}
 use Rattle.sd_option.proofs.OneAnswer.{one-option-answer}
+use Rattle.sd_index.specs.Said.{index-said}
+use Rattle.sd_index.specs.Indexed.{Indexed, cleared}
 use Rattle.sd_index.specs.Found.{Located, located-said, found-said, look-up-told}
 use Rattle.sd_index.specs.Steps.{run-of, run-said, OptionStepped, RunStepped}
+use Rattle.sd_index.specs.declared.reading.IndexAnswer.{IndexAnswer}
+use Rattle.sd_index.specs.declared.reading.IndexAnswer.the-variants as index
 use Rattle.sd_index.specs.declared.lookup.Found.{Found}
 use Rattle.sd_index.specs.declared.lookup.FoundAnswer.{FoundAnswer}
 use Rattle.sd_index.specs.declared.lookup.FoundAnswer.the-variants as found
@@ -22,6 +26,12 @@ use Rattle.sd_index.specs.declared.cursor.RunCursor.{RunCursor}
 use Rattle.sd_index.specs.declared.cursor.RunStep.{RunStep}
 
 -- ---- what is said of them keeps them apart
+
+index-one : (x y : IndexAnswer) → index-said x ≡ index-said y → x ≡ y
+index-one (index.Good n) (index.Good m) same = ap index.Good (accepted-inj n m same)
+index-one (index.Good n) (index.Refused q) same = not-refused _ _ (sym same)
+index-one (index.Refused r) (index.Good m) same = not-refused _ _ same
+index-one (index.Refused r) (index.Refused q) same = ap index.Refused (one-to-one r q (refused-inj _ _ same))
 
 head-one : (x y : OptionHead) → head-said x ≡ head-said y → x ≡ y
 head-one x y same = let e = one-option-answer (accepted (head-said y)) (option.Good x) (option.Good y) (ap accepted same) refl in cc
@@ -45,6 +55,14 @@ run-one : (x y : RunCursor) → run-said x ≡ run-said y → x ≡ y
 run-one x y same = λ i. record { next = record { 0 = same i .next }; left = same i .left }
 
 -- ---- so a promise allows one
+
+-- `read_options` and `read_index`
+pub index-only : (a : Answer (List Frame)) (tab tab₁ tab₂ : List ℕ) (x y : IndexAnswer) → Indexed a tab tab₁ x → Indexed a tab tab₂ y → (x ≡ y) × (tab₁ ≡ tab₂)
+index-only a tab tab₁ tab₂ x y p q = (index-one x y (p .told ∙ sym (q .told)), p .slots ∙ sym (q .slots))
+
+-- `clear_slots`
+pub clear-only : (tab tab₁ tab₂ : List ℕ) → tab₁ ≡ cleared tab → tab₂ ≡ cleared tab → tab₁ ≡ tab₂
+clear-only tab tab₁ tab₂ p q = p ∙ sym q
 
 -- `look_up`
 pub look-up-only : (s tab : List ℕ) (count k : ℕ) (x y : FoundAnswer) → found-said x ≡ look-up-told s tab count k → found-said y ≡ look-up-told s tab count k → x ≡ y

@@ -1,3 +1,4 @@
 pub mod Sized
 pub mod Reads
 pub mod Parts
+pub mod OfTheCode
