@@ -1,7 +1,7 @@
 //! The exported functions of crate `hub` (include/viaductle.h) as safe functions over slices. The only unsafe code of this crate.
 //!
-//! Nothing checks these declarations against the Rattle source: names, order and widths of parameters, and the structs' fields. They are
-//! held to it by reading, and by the tests, which call each function and look at each field.
+//! No compiler holds these declarations to the Rattle source. A test compares the two as text (tests/declarations.rs): names, and widths in
+//! their order. That two numbers of one width are not mistaken for each other rests on the other tests, which look at each field.
 
 /// Document 01's number, 0 for accepted, and its values in order; unused ones are 0.
 #[derive(Clone, Copy)]

@@ -106,6 +106,19 @@ fn options_by_cursor_lookup_and_alone() {
 }
 
 #[test]
+fn options_that_may_not_be_discarded() {
+    use SdOptionSlice::*;
+    let bytes = payload(&[], &hex("00020100 00 00050200 00010002 000177 7F"));
+    let mut table = OffsetTable::new();
+    let sd = SdSlice::from_slice_with_flag(&bytes, &mut table, true).unwrap();
+    let options: Vec<_> = sd.options().map(Result::unwrap).collect();
+    let [Configuration(a), LoadBalancing(b), Unknown(c)] = &options[..] else {
+        panic!("{options:?}")
+    };
+    assert!(!a.discardable() && !b.discardable() && !c.discardable());
+}
+
+#[test]
 fn entries_and_their_runs() {
     let bytes = payload(&hex(ENTRIES), &hex(OPTIONS));
     let mut table = OffsetTable::new();

@@ -144,6 +144,7 @@ macro_rules! addressed {
         impl<'a> $name<'a> {
             /// The option, whose bytes are `option`, with the fields that the library read.
             fn of(read: &ffi::Opt, option: &'a [u8]) -> Self {
+                debug_assert_eq!(read.address_len, $width);
                 let mut address = [0; $width];
                 address.copy_from_slice(&option[read.address_at as usize..][..$width]);
                 $name {
@@ -264,7 +265,13 @@ impl<'a> SdOptionSlice<'a> {
         let slice = &option[HEADER..];
         let discardable = read.discardable != 0;
         match read.code {
-            CONFIGURATION => Self::configuration(option),
+            CONFIGURATION => {
+                debug_assert_eq!(
+                    [read.string_at, read.string_len],
+                    [4, slice.len() as u64 - 1]
+                );
+                Self::configuration(option)
+            }
             0x02 => Self::LoadBalancing(LoadBalancingSlice {
                 slice,
                 discardable,

@@ -1,6 +1,9 @@
 //! A whole payload.
 
-use super::{SdEntriesIterator, SdEntriesWithOptionsIterator, SdOptionsIndex, SdOptionsIterator};
+use super::{
+    entries::ENTRY_LEN, SdEntriesIterator, SdEntriesWithOptionsIterator, SdOptionsIndex,
+    SdOptionsIterator,
+};
 use crate::{ffi, Refusal};
 
 /// What a reading may be told.
@@ -85,9 +88,10 @@ impl<'a, 't> SdSlice<'a, 't> {
         payload: &'a [u8],
         table: &'t [u16],
     ) -> Result<Self, Refusal> {
-        let [flags, _, options, _] = answer.accepted()?;
+        let [flags, entries, options, _] = answer.accepted()?;
         let parts = ffi::parts(payload).accepted()?;
         let [entries_at, entries_len, options_at, options_len] = parts.map(|part| part as usize);
+        debug_assert_eq!(entries as usize * ENTRY_LEN, entries_len);
         let options_part = &payload[options_at..][..options_len];
         Ok(SdSlice {
             flags: SdHeaderFlags {
