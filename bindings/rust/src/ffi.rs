@@ -58,6 +58,8 @@ const _: () = assert!(core::mem::size_of::<Opt>() == 16 * 8);
 
 /// The slots of a table that a reading fills.
 pub(crate) const MAX_SD_OPTIONS: usize = 347;
+/// The highest payload limit of a stream.
+pub(crate) const MAX_LIMIT: u32 = 65_520;
 /// The ranges that a stream's state has room for.
 pub(crate) const MAX_RANGES: usize = 32;
 /// The words of a stream's state: limit, count of ranges, whether an end is known, the end, then start and end of each range.

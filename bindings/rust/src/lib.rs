@@ -45,7 +45,7 @@ mod tp;
 
 pub use message::SomeipMsgSlice;
 pub use refusal::{LenSource, Refusal, SdConfigurationStringError, Values};
-pub use tp::{TpBuf, TpRange, TpStream, MAX_TP_PAYLOAD_LEN};
+pub use tp::{TpBuf, TpRange, TpStream, MAX_TP_PAYLOAD_LEN, TP_STREAM_WORDS};
 
 /// The examples of the README and of docs/MOVING.md, run with the others.
 #[cfg(doctest)]

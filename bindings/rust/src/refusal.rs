@@ -1,6 +1,6 @@
 //! What is refused: document 01's number, its values, and a text for the person who reads the log.
 
-use crate::ffi::{Answer, MAX_RANGES, MAX_SD_OPTIONS};
+use crate::ffi::{Answer, MAX_LIMIT, MAX_RANGES, MAX_SD_OPTIONS};
 use core::fmt;
 
 /// Why something was refused. Variants and fields have someip_parse's names where it has them; [`number`](Refusal::number) and
@@ -550,7 +550,7 @@ impl fmt::Display for Refusal {
             ),
             LimitTooLarge(limit) => write!(
                 f,
-                "a payload limit of {limit} was asked for; at most 65520 is possible"
+                "a payload limit of {limit} was asked for; at most {MAX_LIMIT} is possible"
             ),
             NotComplete => write!(f, "the report is not complete"),
             MalformedState => write!(

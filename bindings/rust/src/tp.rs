@@ -3,7 +3,10 @@
 use crate::{ffi, Refusal, SomeipMsgSlice};
 
 /// The highest payload limit of a stream.
-pub const MAX_TP_PAYLOAD_LEN: u32 = 65_520;
+pub const MAX_TP_PAYLOAD_LEN: u32 = ffi::MAX_LIMIT;
+
+/// The words of a stream's state.
+pub const TP_STREAM_WORDS: usize = ffi::WORDS;
 
 /// A part of the report that has arrived: offsets into its payload, the end not included.
 #[derive(Clone, Copy, Debug, PartialEq, Eq, PartialOrd, Ord, Hash)]
@@ -16,28 +19,29 @@ pub struct TpRange {
 /// The state of a stream, apart from its buffer: for a caller who keeps many streams and lends each its buffer call by call. [`TpBuf`] is one
 /// with its buffer.
 ///
-/// It is a value of plain words. Words that are no state of a stream are refused by 38 wherever they are handed in.
+/// It is a value of plain words, and equal to another where all words are. Words that are no state of a stream are refused by 38, and are not
+/// complete.
 #[derive(Clone, Copy, Debug, PartialEq, Eq, Hash)]
 pub struct TpStream {
-    words: [u32; ffi::WORDS],
+    words: [u32; TP_STREAM_WORDS],
 }
 
 impl TpStream {
     /// A stream that has received nothing, for reports of at most `limit` bytes of payload; 36 above [`MAX_TP_PAYLOAD_LEN`].
     pub fn new(limit: u32) -> Result<Self, Refusal> {
-        let mut words = [0; ffi::WORDS];
+        let mut words = [0; TP_STREAM_WORDS];
         ffi::begin(&mut words, limit).accepted()?;
         Ok(TpStream { words })
     }
 
     /// The stream of these words, which are not judged here: limit, count of ranges, 1 if an end is known and else 0, the end, then start and
-    /// end of 32 ranges.
-    pub fn from_words(words: [u32; 68]) -> Self {
+    /// end of each of the 32 ranges.
+    pub fn from_words(words: [u32; TP_STREAM_WORDS]) -> Self {
         TpStream { words }
     }
 
     /// The words, to keep them elsewhere.
-    pub fn words(&self) -> &[u32; 68] {
+    pub fn words(&self) -> &[u32; TP_STREAM_WORDS] {
         &self.words
     }
 
