@@ -1,14 +1,23 @@
 //! The exported functions of crate `hub` (include/viaductle.h) as safe functions over slices. The only unsafe code of this crate.
 //!
-//! No compiler holds these declarations to the Rattle source. A test compares the two as text (tests/declarations.rs): names, and widths in
-//! their order. That two numbers of one width are not mistaken for each other rests on the other tests, which look at each field.
+//! No compiler holds these declarations to the Rattle source. A test compares the two as text (tests/declarations.rs): names and types of
+//! parameters and fields, in their order. The other tests call each function and look at each field.
 
 /// Document 01's number, 0 for accepted, and its values in order; unused ones are 0.
 #[derive(Clone, Copy)]
 #[repr(C)]
 pub(crate) struct Answer {
     pub number: u64,
-    pub values: [u64; 4],
+    pub value0: u64,
+    pub value1: u64,
+    pub value2: u64,
+    pub value3: u64,
+}
+
+impl Answer {
+    pub fn values(self) -> [u64; 4] {
+        [self.value0, self.value1, self.value2, self.value3]
+    }
 }
 
 /// One entry; fields that its kind has not are 0.
@@ -113,23 +122,23 @@ mod hub {
         pub fn viaductle_next_entry(entries: *const u8, len: usize, at: usize) -> Entry;
         pub fn viaductle_read_option(option: *const u8, len: usize) -> Opt;
 
-        pub fn viaductle_begin(state: *mut u32, words: usize, limit: u32) -> Answer;
+        pub fn viaductle_begin(words: *mut u32, len: usize, limit: u32) -> Answer;
         pub fn viaductle_consume(
-            state: *mut u32,
-            words: usize,
+            words: *mut u32,
+            len: usize,
             segment: *const u8,
+            segment_len: usize,
+            buffer: *mut u8,
+            room: usize,
+        ) -> Answer;
+        pub fn viaductle_complete(words: *const u32, len: usize) -> Answer;
+        pub fn viaductle_take(
+            words: *const u32,
             len: usize,
             buffer: *mut u8,
             room: usize,
         ) -> Answer;
-        pub fn viaductle_complete(state: *const u32, words: usize) -> Answer;
-        pub fn viaductle_take(
-            state: *const u32,
-            words: usize,
-            buffer: *mut u8,
-            room: usize,
-        ) -> Answer;
-        pub fn viaductle_clear(state: *mut u32, words: usize) -> Answer;
+        pub fn viaductle_clear(words: *mut u32, len: usize) -> Answer;
     }
 }
 

@@ -305,7 +305,7 @@ impl Refusal {
     /// The refusal that the library gave. Numbers are as wide as in the library's own enum, from which they come.
     pub(crate) fn of(answer: Answer) -> Refusal {
         use Refusal::*;
-        let Answer { number, values } = answer;
+        let (number, values) = (answer.number, answer.values());
         let [first, second, third, fourth] = values;
         let refusal = match number {
             1 => UnexpectedEndOfSlice(first as usize),
@@ -379,7 +379,7 @@ impl Answer {
     /// The values of an acceptance, or the refusal.
     pub(crate) fn accepted(self) -> Result<[u64; 4], Refusal> {
         match self.number {
-            0 => Ok(self.values),
+            0 => Ok(self.values()),
             _ => Err(Refusal::of(self)),
         }
     }

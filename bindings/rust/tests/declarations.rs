@@ -1,10 +1,12 @@
-//! The declarations of `src/ffi.rs` beside the Rattle source of crate `hub`, as text: the same functions, with parameters and structs of the
-//! same widths in the same order. What a number means is not in a type: the other tests look at each field.
+//! The declarations of `src/ffi.rs` beside the Rattle source of crate `hub`, as text: the same functions, and names and types of parameters and
+//! fields in the same order.
 
 use std::collections::BTreeMap;
 use std::{fs, path::Path};
 
-/// A function's parameters and result, each by its type: a slice as a pointer and a length, a struct as its words.
+/// Names and types of parameters or fields.
+type Items = Vec<(String, String)>;
+/// What each function takes and gives back, item by item.
 type Functions = BTreeMap<String, Vec<String>>;
 
 /// The text between the first `open` and the `close` that matches it, and what follows.
@@ -20,41 +22,46 @@ fn between(text: &str, open: char, close: char) -> (&str, &str) {
     panic!("no {close} in {text}")
 }
 
-/// The types of `name: type` items.
-fn types(items: &str) -> Vec<String> {
-    let lines = items.lines().map(|line| line.split("//").next().unwrap());
-    let items = lines.collect::<Vec<_>>().join(" ");
-    let items = items.split(',').filter(|item| !item.trim().is_empty());
-    items
-        .map(|item| item.split_once(':').unwrap().1.trim().to_string())
-        .collect()
+/// The items of a list of `name: type`.
+fn items(list: &str) -> Items {
+    let lines = list.lines().map(|line| line.split("//").next().unwrap());
+    let list = lines.collect::<Vec<_>>().join(" ").replace("pub ", "");
+    let items = list.split(',').filter(|item| !item.trim().is_empty());
+    let pair = |item: &str| {
+        let (name, kind) = item.split_once(':').unwrap();
+        (name.trim().to_string(), kind.trim().to_string())
+    };
+    items.map(pair).collect()
 }
 
-/// A type as what it is on the way through C.
-fn widths(name: &str, structs: &BTreeMap<String, Vec<String>>) -> Vec<String> {
-    let pointer = |kind: &str, element: &str| {
-        let element = element.trim_end_matches(']');
-        vec![format!("{kind} {element}"), "usize".to_string()]
-    };
-    if let Some(element) = name.strip_prefix("&[") {
-        return pointer("*const", element);
+/// Parameters as C has them: a slice is a pointer under its name and a length, whatever that is called.
+fn parameters(list: &str) -> Vec<String> {
+    let mut all = Vec::new();
+    let mut after_pointer = false;
+    for (name, kind) in items(list) {
+        let slice = kind.strip_prefix("&[").map(|element| ("*const", element));
+        let slice = slice.or(kind.strip_prefix("&mut [").map(|element| ("*mut", element)));
+        match slice {
+            Some((pointer, element)) => {
+                let element = element.trim_end_matches(']');
+                all.extend([format!("{name}: {pointer} {element}"), "usize".to_string()]);
+            }
+            None if after_pointer => all.push(kind.clone()),
+            None => all.push(format!("{name}: {kind}")),
+        }
+        after_pointer = kind.starts_with('*');
     }
-    if let Some(element) = name.strip_prefix("&mut [") {
-        return pointer("*mut", element);
-    }
-    if let Some((element, count)) = name
-        .strip_prefix('[')
-        .and_then(|array| array.split_once(';'))
-    {
-        let count: usize = count.trim().trim_end_matches(']').parse().unwrap();
-        return vec![element.to_string(); count];
-    }
-    match structs.get(name) {
-        Some(fields) => fields
-            .iter()
-            .flat_map(|field| widths(field, structs))
-            .collect(),
-        None => vec![name.to_string()],
+    all
+}
+
+/// A result as its fields, those of a struct within it too.
+fn fields(name: &str, kind: &str, structs: &BTreeMap<String, Items>) -> Vec<String> {
+    match structs.get(kind) {
+        Some(items) => {
+            let inner = |(name, kind): &(String, String)| fields(name, kind, structs);
+            items.iter().flat_map(inner).collect()
+        }
+        None => vec![format!("{name}: {kind}")],
     }
 }
 
@@ -64,8 +71,7 @@ fn functions(source: &str, marker: &str) -> Functions {
     for part in source.split("#[repr(C)]").skip(1) {
         let (_, part) = part.split_once("struct ").unwrap();
         let name = part.split([' ', '{']).next().unwrap();
-        let (fields, _) = between(part, '{', '}');
-        structs.insert(name.to_string(), types(&fields.replace("pub ", "")));
+        structs.insert(name.to_string(), items(between(part, '{', '}').0));
     }
     let mut found = Functions::new();
     for part in source.split(marker).skip(1) {
@@ -73,16 +79,11 @@ fn functions(source: &str, marker: &str) -> Functions {
         if !name.starts_with("viaductle_") {
             continue;
         }
-        let (parameters, rest) = between(part, '(', ')');
+        let (list, rest) = between(part, '(', ')');
         let result = rest.trim_start().strip_prefix("->").unwrap().trim_start();
-        let result = result
-            .split([' ', ';', '\n', '{'])
-            .next()
-            .unwrap()
-            .to_string();
-        let mut all = types(parameters);
-        all.push(result);
-        let all = all.iter().flat_map(|name| widths(name, &structs)).collect();
+        let result = result.split([' ', ';', '\n', '{']).next().unwrap();
+        let mut all = parameters(list);
+        all.extend(fields("result", result, &structs));
         assert!(
             found.insert(name.to_string(), all).is_none(),
             "{name} twice"
@@ -101,32 +102,29 @@ fn declared_as_in_the_source() {
     let sources = folder.map(|file| fs::read_to_string(file.unwrap().path()).unwrap());
     let exported = functions(&sources.collect::<String>(), "pub extern \"C\" fn ");
     let ffi = fs::read_to_string(crate_folder.join("src/ffi.rs")).unwrap();
-    let declared = functions(&ffi, "pub fn ");
     assert_eq!(exported.len(), 16, "{exported:#?}");
-    assert_eq!(declared, exported);
+    assert_eq!(functions(&ffi, "pub fn "), exported);
 }
 
 #[test]
 fn a_changed_declaration_shows() {
     let source = "#[repr(C)]\npub struct Pair {\n    pub first: u64, // one\n    pub second: u64,\n}\n
-        pub extern \"C\" fn viaductle_f(bytes: &[u8], table: &mut [u16], on: bool) -> Pair\n    ensures { x }";
-    let found = functions(source, "pub extern \"C\" fn ");
-    let want = [
-        "*const u8",
-        "usize",
-        "*mut u16",
-        "usize",
-        "bool",
-        "u64",
-        "u64",
-    ];
-    assert_eq!(found["viaductle_f"], want);
-    let declared = "#[repr(C)]\nstruct Pair {\n    pub both: [u64; 2],\n}
-        pub fn viaductle_f(bytes: *const u8, len: usize, table: *mut u16, slots: usize, on: bool) -> Pair;";
-    assert_eq!(functions(declared, "pub fn ")["viaductle_f"], want);
-    let swapped = declared.replace(
-        "*mut u16, slots: usize, on: bool",
-        "*mut u16, on: bool, slots: usize",
-    );
-    assert_ne!(functions(&swapped, "pub fn ")["viaductle_f"], want);
+        pub extern \"C\" fn viaductle_f(bytes: &[u8], table: &mut [u16], at: usize, on: bool) -> Pair\n    ensures { x }";
+    let exported = functions(source, "pub extern \"C\" fn ");
+    let declared = "#[repr(C)]\nstruct Pair {\n    first: u64,\n    second: u64,\n}
+        pub fn viaductle_f(bytes: *const u8, len: usize, table: *mut u16, slots: usize, at: usize, on: bool) -> Pair;";
+    assert_eq!(functions(declared, "pub fn "), exported);
+    for (old, new) in [
+        ("at: usize, on: bool", "on: bool, at: usize"),
+        ("*mut u16", "*const u16"),
+        ("at: usize", "next: usize"),
+        ("first: u64", "first: u32"),
+        (
+            "first: u64,\n    second: u64",
+            "second: u64,\n    first: u64",
+        ),
+    ] {
+        let changed = declared.replace(old, new);
+        assert_ne!(functions(&changed, "pub fn "), exported, "{new}");
+    }
 }

@@ -75,7 +75,7 @@ impl<'a> SdOptionsIterator<'a> {
     pub fn advance(&mut self) -> Result<SdOptionSlice<'a>, Refusal> {
         let answer = ffi::next_option(self.options, self.at);
         let option = SdOptionSlice::found(answer, self.options)?;
-        let [_, at, size, _] = answer.values;
+        let [_, at, size, _] = answer.values();
         self.at = (at + size) as usize;
         Ok(option)
     }
