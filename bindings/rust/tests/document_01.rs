@@ -157,6 +157,50 @@ fn messages() {
 }
 
 #[test]
+fn header_fields() {
+    // Neither the length field nor the protocol version is judged.
+    let message = hex("FFFF8100 01020304 00000506 09010200 000000000000000000000000");
+    let mut table = OffsetTable::new();
+    let header = SdMessage::from_slice(&message, &mut table)
+        .unwrap()
+        .header();
+    assert_eq!(header.slice(), message);
+    assert_eq!(
+        (header.service_id(), header.event_or_method_id()),
+        (0xffff, 0x8100)
+    );
+    assert_eq!(
+        (header.length(), header.request_id()),
+        (0x0102_0304, 0x0506)
+    );
+    assert_eq!((header.client_id(), header.session_id()), (0, 0x0506));
+    assert_eq!(
+        (header.protocol_version(), header.interface_version()),
+        (9, 1)
+    );
+
+    let mut final_segment = segment(0, false, &[]);
+    final_segment[8..16].copy_from_slice(&hex("AABBCCDD 0105A177"));
+    let mut buffer = [0; 16];
+    let mut stream = TpBuf::new(0, &mut buffer).unwrap();
+    stream.consume_tp(&final_segment).unwrap();
+    let header = stream.take().unwrap();
+    assert_eq!((header.message_id(), header.length()), (0x1234_8001, 8));
+    assert_eq!(
+        (header.request_id(), header.client_id()),
+        (0xaabb_ccdd, 0xaabb)
+    );
+    assert_eq!(
+        (header.protocol_version(), header.interface_version()),
+        (1, 5)
+    );
+    assert_eq!(
+        (header.message_type_raw(), header.return_code()),
+        (0x81, 0x77)
+    );
+}
+
+#[test]
 fn two_segments() {
     let mut buffer = [0xee; 16 + 64];
     let mut stream = TpBuf::new(64, &mut buffer).unwrap();

@@ -271,6 +271,7 @@ fn a_table_outlives_its_reading() {
     );
     // More options than slots: past the lent table, and past the 347.
     let wide = SdOptionsIndex::from_table(&options, &table[..3], 400);
+    assert_ne!(wide, SdOptionsIndex::from_table(&options, &table[..3], 401));
     assert_eq!(wide.lookup(3), Err(Refusal::TableMisfit));
     assert_eq!(wide.lookup(347), Err(Refusal::TableMisfit));
     assert_eq!(wide.lookup(400), Err(Refusal::NothingThere));
