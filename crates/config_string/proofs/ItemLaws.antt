@@ -6,19 +6,16 @@ use native.Mathlib.Omega.{arith}
 use borrow.Author.Tests.{leb-false, le-leb, lt-leb, eqb-false, eq-eqb, ne-eqb}
 use lib.Dec.{leb, eqb}
 use lib.ListN.{length, getD, take, drop, length-drop}
-use lib.Seq.{take-all, length-take-le}
+use lib.Seq.{length-take-le}
 use Rattle.numbers.specs.Refusals.{Refusal, nothing-there}
 use Rattle.numbers.specs.Answers.{Answer, accepted, refused, pass, _>>_, given}
-use Rattle.numbers.proofs.AnswerLaws.{when-hit, when-pass, when-accepted, then-pass, then-accepted, accepted-inj, not-refused}
+use Rattle.numbers.proofs.AnswerLaws.{when-hit, when-pass, when-accepted, given-accepted, then-pass, then-accepted, accepted-inj, not-refused}
+use Rattle.numbers.proofs.ByteLaws.{take-rest}
 use Rattle.sd_format.specs.Strings.{judge-item}
 use Rattle.sd_format.proofs.StringLaws.{item-passes}
 use Rattle.config_string.specs.declared.StringAnswer.{StringAnswer}
 use Rattle.config_string.specs.Answered.{answered}
 use Rattle.config_string.specs.Items.{next-item, past, part-of}
-
--- a part of a slice, from a place to the end, is what is left of the list there
-pub take-rest : (s : List ℕ) (k : ℕ) → take (length s - k) (drop k s) ≡ drop k s
-take-rest s k = take-all (length s - k) (drop k s) (simp length-drop (omega arith))
 
 -- an item whose length byte `n` stands at `at`, with all that follows that byte
 module _ (s : List ℕ) (at n : ℕ) where
@@ -57,11 +54,6 @@ module _ (s : List ℕ) (at : ℕ) (inside : at < length s) where
   next-bad some r bad = next-there some ∙ rw bad refl
 
 -- ---- from where the cursor stands afterwards back to the item
-
-given-accepted : {A B : Type 0} (f : A → B) (m : Answer A) (y : B) → given f m ≡ accepted y → (x : A) × (m ≡ accepted x) × (f x ≡ y)
-unfolding given
-given-accepted f (accepted x) y e = (x, refl, accepted-inj (f x) y e)
-given-accepted f (refused r) y e = not-refused r y e
 
 -- an item was found: it lies in the string, between the place and where the cursor stands
 pub record Found (s : List ℕ) (at next : ℕ) : Type 0 where

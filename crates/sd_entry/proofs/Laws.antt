@@ -13,11 +13,11 @@ use Rattle.numbers.specs.Refusals.{Refusal, unexpected-end, unknown-entry, run-
 use Rattle.numbers.specs.Answers.{Answer, accepted, refused, Verdict, pass, _>>=_, _>>_, given, verdict}
 use Rattle.numbers.specs.Bytes.{at16, at24, at32}
 use Rattle.numbers.proofs.AnswerLaws.{when-hit, when-pass, when-accepted, bind-pass}
-use Rattle.sd_format.specs.Sequences.{next-at}
+use Rattle.sd_format.specs.Sequences.{next-at, behind, stands}
 use Rattle.sd_format.specs.Options.{has}
-use Rattle.sd_format.specs.Entries.{Head, Group, Entry, find, offer, subscribe, subscribe-ack, head-of, head, group, minor, by-type, read-entry, next-entry, inside, judge-runs, placed-entry}
+use Rattle.sd_format.specs.Entries.{Head, Group, Entry, find, offer, subscribe, subscribe-ack, head-of, head, group, minor, by-type, read-entry, sixteen, next-entry, inside, judge-runs, placed-entry}
 use Rattle.sd_entry.specs.Said.{saidHead, saidEntry, saidAnswer, only-runs}
-use Rattle.sd_entry.specs.Steps.{stands, Stepped}
+use Rattle.sd_entry.specs.Steps.{Stepped}
 use Rattle.sd_entry.specs.declared.SdServiceEntryType.the-variants.{FindService, OfferService}
 use Rattle.sd_entry.specs.declared.EventGroupEntryType.the-variants.{SubscribeOrStop, SubscribeAckOrNack}
 use Rattle.sd_entry.specs.declared.EntryHead.{EntryHead}
@@ -205,9 +205,9 @@ module _ (s : List ℕ) (at : ℕ) where
       when-pass _ _ _ (lt-leb (length s) at h) ∙ ap read-entry (sym (take-all (length s - at) (drop at s) left))
 
 -- a step: the answer, and where the cursor stands by it
-pub stepped : (s : List ℕ) (at : ℕ) (a : EntryAnswer) {place : ℕ} → saidAnswer a ≡ next-entry s at → place ≡ stands (saidAnswer a) at
+pub stepped : (s : List ℕ) (at : ℕ) (a : EntryAnswer) {place : ℕ} → saidAnswer a ≡ next-entry s at → place ≡ stands (behind sixteen) (saidAnswer a) at
     → Stepped s at (record { answer = a; cursor = record { at = place } })
-stepped s at a answer place = record { answer = answer; cursor = place ∙ ap (λ (x : Answer Entry). stands x at) answer }
+stepped s at a answer place = record { answer = answer; cursor = place ∙ ap (λ (x : Answer Entry). stands (behind sixteen) x at) answer }
 
 -- a cursor that handed out an entry still stands within the bytes or at their end
 pub step-fits : (s : List ℕ) (at : ℕ) (a : EntryAnswer) (e : SdEntry) → saidAnswer a ≡ read-entry (take (length s - at) (drop at s)) → a ≡ Good e

@@ -70,7 +70,7 @@ group s =
 abbrev pub minor : List ℕ → ℕ
 minor s = at32 s 12
 
--- types 0x00, 0x01 are service entries, 0x06, 0x07 eventgroup entries
+-- types 0x00, 0x01 are service entries, 0x06, 0x07 eventgroup entries (as the Rust: any other refuses the whole payload; DIFFERENCES, R1)
 unfoldable pub by-type : ℕ → List ℕ → Answer Entry
 by-type type s =
     cond (eqb type 0x00) (accepted (find (head s) (minor s)))
@@ -94,7 +94,8 @@ sixteen e = 16
 
 -- ---- an entry beside `n` options
 
--- count 0 passes at any start; otherwise start plus count is at most the number of options
+-- count 0 passes at any start; otherwise start plus count is at most the number of options (as the Rust: a run that leaves the list refuses
+-- the whole payload; DIFFERENCES, R2)
 unfoldable pub inside : (n start count : ℕ) → Bool
 inside n start count = eqb count 0 || leb (start + count) n
 

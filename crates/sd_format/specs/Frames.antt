@@ -42,7 +42,8 @@ read-option = one-option scanned
 
 -- ---- all options
 
--- an unknown option needs the discardable bit, unless the discard setting is on
+-- an unknown option needs the discardable bit, unless the discard setting is on (as the Rust: one that may not stand refuses the whole payload;
+-- DIFFERENCES, R3)
 unfoldable pub permitted : Settings → Kind → List ℕ → Bool
 permitted g unknown body = g .discard || has (getD body 0 0) 0x80
 permitted g configuration body = true

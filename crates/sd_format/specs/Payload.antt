@@ -64,7 +64,7 @@ frames-of = given (λ r. r .frames)
 
 -- ---- what is handed out
 
--- byte 0
+-- byte 0 (as the Rust: the third flag is read whatever the release; DIFFERENCES, R4)
 abbrev pub flags : ℕ → Flags
 flags b = record { reboot = has b 0x80; unicast = has b 0x40; initial-data-control = has b 0x20 }
 

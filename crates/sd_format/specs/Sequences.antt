@@ -30,6 +30,11 @@ next-at read s at = refuse nothing-there when leb (length s) at else read (drop 
 abbrev pub behind : {A : Type 0} → (A → ℕ) → A → ℕ → ℕ
 behind size a at = at + size a
 
+-- where a cursor stands by what it answered: it moves over what it handed out, and a refusal leaves it where it was
+abbrev pub stands : {A C : Type 0} → (A → C → C) → Answer A → C → C
+stands move (accepted a) c = move a c
+stands move (refused r) c = c
+
 -- where each part starts, the first at `at`
 unfoldable pub starts : {A : Type 0} → (A → ℕ) → ℕ → List A → List ℕ
 starts size at [] = []

@@ -24,9 +24,6 @@ use Rattle.sd_index.specs.Found.{located, look-up-told}
 pub none-left : (s : List ℕ) (at : ℕ) → length s ≤ at → [] ≡ drop at s
 none-left s at h = sym (drop-of-length-le s h)
 
-pub rest-left : (s : List ℕ) (at : ℕ) → take (length s - at) (drop at s) ≡ drop at s
-rest-left s at = take-all (length s - at) (drop at s) (simp length-drop (omega arith))
-
 -- ---- the tests
 
 pub told-refused : {A B : Type 0} (f : A → B) {a : Answer A} {r : Refusal} → a ≡ refused r → refused r ≡ given f a

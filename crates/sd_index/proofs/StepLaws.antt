@@ -10,7 +10,7 @@ use Rattle.numbers.specs.Refusals.{nothing-there}
 use Rattle.numbers.specs.Answers.{Answer, accepted, refused, given}
 use Rattle.numbers.proofs.AnswerLaws.{when-hit, when-pass, given-accepted}
 use Rattle.sd_format.specs.Kinds.{scanned}
-use Rattle.sd_format.specs.Sequences.{next-at, behind}
+use Rattle.sd_format.specs.Sequences.{stands, next-at, behind}
 use Rattle.sd_format.specs.Frames.{size, read-option, look-up, next-option, Run, next-of-run, along}
 use Rattle.sd_option.specs.Reading.{Head, head-of, option-said}
 use Rattle.sd_option.specs.declared.reading.OptionHead.{OptionHead}
@@ -18,7 +18,7 @@ use Rattle.sd_option.specs.declared.reading.OptionAnswer.{OptionAnswer}
 use Rattle.sd_option.specs.declared.reading.OptionAnswer.the-variants as option
 use Rattle.sd_option.proofs.ReadingLaws.{found}
 use Rattle.sd_index.specs.Found.{Located, located, located-said, found-said, by-table, look-up-told}
-use Rattle.sd_index.specs.Steps.{stands, OptionStepped, run-said, RunStepped}
+use Rattle.sd_index.specs.Steps.{OptionStepped, run-said, RunStepped}
 use Rattle.sd_index.specs.declared.lookup.Found.{Found}
 use Rattle.sd_index.specs.declared.lookup.FoundAnswer.{FoundAnswer}
 use Rattle.sd_index.specs.declared.lookup.FoundAnswer.the-variants as found-answer

@@ -2,19 +2,14 @@
 use Prim.Native.Nat.{ℕ}
 use mathlib.Core.Path.{_≡_}
 use mathlib.Core.List.{List}
-use Rattle.numbers.specs.Answers.{Answer, accepted, refused, given}
-use Rattle.sd_format.specs.Sequences.{behind}
+use Rattle.numbers.specs.Answers.{given}
+use Rattle.sd_format.specs.Sequences.{behind, stands}
 use Rattle.sd_format.specs.Frames.{size, next-option, Run, next-of-run, along}
 use Rattle.sd_option.specs.Reading.{head-of, option-said}
 use Rattle.sd_index.specs.Found.{found-said, by-table}
 use Rattle.sd_index.specs.declared.cursor.OptionStep.{OptionStep}
 use Rattle.sd_index.specs.declared.cursor.RunCursor.{RunCursor}
 use Rattle.sd_index.specs.declared.cursor.RunStep.{RunStep}
-
--- where a cursor stands by what it answered: it moves over what it handed out, and a refusal leaves it where it was
-abbrev pub stands : {A C : Type 0} → (A → C → C) → Answer A → C → C
-stands move (accepted a) c = move a c
-stands move (refused r) c = c
 
 -- a step of the option cursor from place `at` among the options `s`
 pub record OptionStepped (s : List ℕ) (at : ℕ) (step : OptionStep) : Type 0 where

@@ -52,7 +52,8 @@ tooBig p seg = ltb (p .limit) (endOf seg)
 abbrev pub notAligned : List ℕ → Bool
 notAligned seg = more seg && not (eqb (size seg % 16) 0)
 
--- an end is known, and the new end x is past it, or this is a final segment with another end
+-- an end is known, and the new end x is past it, or this is a final segment with another end (as the Rust: an end below data that is held is
+-- not looked at; DIFFERENCES, R6)
 abbrev pub conflicts : TpEnd → Bool → ℕ → Bool
 conflicts Unknown m x = false
 conflicts (Known e) m x = ltb e x || (not m && not (eqb x e))

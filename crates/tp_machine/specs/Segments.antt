@@ -45,6 +45,7 @@ header s = set (take 16 s) 14 (withoutTp (getD s 14 0))
 unfoldable pub pasted : List ℕ → ℕ → List ℕ → List ℕ
 pasted d at s = take at d ++ (s ++ drop (at + length s) d)
 
--- the buffer after a segment: its payload behind the header's 16 bytes, and for an offset of 0 its header too
+-- the buffer after a segment: its payload behind the header's 16 bytes, and for an offset of 0 its header too (as the Rust: a segment that
+-- overlaps or repeats what is held is taken, and the newest bytes win; DIFFERENCES, R5)
 unfoldable pub written : List ℕ → List ℕ → List ℕ
 written buf s = pasted (cond (eqb (offset s) 0) (pasted buf 0 (header s)) buf) (16 + offset s) (payload s)

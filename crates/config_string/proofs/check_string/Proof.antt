@@ -8,12 +8,13 @@ use borrow.Author.Needs.{needs}
 use lib.ListN.{length, getD, drop}
 use Rattle.numbers.specs.Answers.{given, verdict}
 use Rattle.refusal.specs.Said.{saidString}
+use Rattle.numbers.proofs.ByteLaws.{take-rest}
 use Rattle.sd_format.specs.Strings.{closed, judge-item, read-string}
 use Rattle.sd_format.proofs.StringLaws.{items-left, left-whole, left-end, left-terminator, left-refused, left-good}
 use Rattle.config_string.specs.declared.StringAnswer.{StringAnswer}
 use Rattle.config_string.specs.declared.StringAnswer.the-variants.{Valid}
 use Rattle.config_string.specs.Answered.{answered}
-use Rattle.config_string.proofs.ItemLaws.{take-rest, judged, within}
+use Rattle.config_string.proofs.ItemLaws.{judged, within}
 use Rattle.config_string.proofs.check_string.Statement.{statement}
 use Rattle.config_string.proofs.check_string.Tie as tie
 

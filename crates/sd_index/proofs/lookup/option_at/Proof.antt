@@ -1,6 +1,7 @@
 -- `lookup::option_at` meets its contract: the bytes from the offset on, or none. Assumes nothing.
 use borrow.Author.Needs.{needs}
-use Rattle.sd_index.proofs.FoundLaws.{none-left, rest-left}
+use Rattle.numbers.proofs.ByteLaws.{take-rest}
+use Rattle.sd_index.proofs.FoundLaws.{none-left}
 use Rattle.sd_index.proofs.lookup.option_at.Statement.{statement}
 use Rattle.sd_index.proofs.lookup.option_at.Tie as tie
 
@@ -26,7 +27,7 @@ part-result-end-2 : tie.Need-part-result-end-2
 part-result-end-2 c = search needs
 
 returns-2 : tie.Need-returns-2
-returns-2 c = rest-left (c .before .before .args .options .now) (c .before .before .args .offset .0)
+returns-2 c = take-rest (c .before .before .args .options .now) (c .before .before .args .offset .0)
 
 pub option-at-spec : {M : Type 1} → statement M
 option-at-spec =

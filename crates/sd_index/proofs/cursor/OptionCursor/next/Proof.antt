@@ -5,7 +5,7 @@ use native.Mathlib.Omega.{arith}
 use borrow.Author.Needs.{needs}
 use Rattle.sd_option.specs.Reading.{head-of, option-said}
 use Rattle.sd_option.specs.declared.reading.OptionAnswer.{OptionAnswer}
-use Rattle.sd_index.specs.Steps.{stands}
+use Rattle.sd_format.specs.Sequences.{stands}
 use Rattle.sd_index.proofs.FoundLaws.{told-refused}
 use Rattle.sd_index.proofs.StepLaws.{behind-head, next-ended, next-told, option-stepped, step-fits}
 use Rattle.sd_index.proofs.cursor.OptionCursor.next.Statement.{statement}

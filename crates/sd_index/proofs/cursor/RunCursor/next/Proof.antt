@@ -4,7 +4,8 @@ use mathlib.Core.Path.{refl, sym, ap}
 use native.Mathlib.Omega.{arith}
 use borrow.Author.Needs.{needs}
 use Rattle.sd_index.specs.Found.{located, found-said}
-use Rattle.sd_index.specs.Steps.{run-said, stands}
+use Rattle.sd_format.specs.Sequences.{stands}
+use Rattle.sd_index.specs.Steps.{run-said}
 use Rattle.sd_index.specs.declared.lookup.FoundAnswer.{FoundAnswer}
 use Rattle.sd_index.proofs.FoundLaws.{told-refused}
 use Rattle.sd_index.proofs.StepLaws.{along-told, run-ended, run-told, run-stepped, found-below}

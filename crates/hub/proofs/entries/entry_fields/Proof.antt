@@ -1,0 +1,37 @@
+-- `entries::entry_fields` meets its contract: each arm is told which case it has. Assumes nothing.
+use borrow.Author.Needs.{needs}
+use Rattle.sd_entry.specs.declared.SdEntry.{SdEntry}
+use Rattle.sd_entry.specs.Said.{saidEntry}
+use Rattle.hub.specs.Entries.{entry-fields}
+use Rattle.hub.proofs.Arms.{arm}
+use Rattle.hub.proofs.entries.entry_fields.Statement.{statement}
+use Rattle.hub.proofs.entries.entry_fields.Tie as tie
+
+enum-known-entry : tie.Need-enum-known-entry
+enum-known-entry c = search needs
+
+service-fields-requires : tie.Need-service-fields-requires
+service-fields-requires c κs = search needs
+
+enum-known-entry-2 : tie.Need-enum-known-entry-2
+enum-known-entry-2 c = search needs
+
+eventgroup-fields-requires : tie.Need-eventgroup-fields-requires
+eventgroup-fields-requires c κs = search needs
+
+returns : tie.Need-returns
+returns c = arm (λ (a : SdEntry). entry-fields (saidEntry a)) (c .service-fields .ensures) (c .before .before .entry .given .1)
+
+returns-2 : tie.Need-returns-2
+returns-2 c = arm (λ (a : SdEntry). entry-fields (saidEntry a)) (c .eventgroup-fields .ensures) (c .before .before .entry2 .given .1)
+
+pub entry-fields-spec : {M : Type 1} → statement M
+entry-fields-spec =
+    tie.close
+    (tie.spec
+    enum-known-entry
+    service-fields-requires
+    enum-known-entry-2
+    eventgroup-fields-requires
+    returns
+    returns-2)

@@ -1,0 +1,31 @@
+-- `entries::eventgroup_fields` meets its contract: each arm is told which case it has. Assumes nothing.
+use borrow.Author.Needs.{needs}
+use Rattle.sd_entry.specs.declared.EventGroupEntryType.{EventGroupEntryType}
+use Rattle.sd_entry.specs.Said.{saidEventgroup, saidHead, saidGroup}
+use Rattle.hub.specs.Entries.{entry-fields}
+use Rattle.hub.proofs.Arms.{arm}
+use Rattle.hub.proofs.entries.eventgroup_fields.Statement.{statement}
+use Rattle.hub.proofs.entries.eventgroup_fields.Tie as tie
+
+enum-told : tie.Need-enum-told
+enum-told c = search needs
+
+fields-of-requires : tie.Need-fields-of-requires
+fields-of-requires c κs = search needs
+
+enum-told-2 : tie.Need-enum-told-2
+enum-told-2 c = search needs
+
+fields-of-requires-2 : tie.Need-fields-of-requires-2
+fields-of-requires-2 c κs = search needs
+
+returns : tie.Need-returns
+returns c = arm (λ (a : EventGroupEntryType). entry-fields (saidEventgroup a (saidHead (c .before .before .before .args .head)) (saidGroup (c .before .before .before .args .group)))) (c .fields-of .ensures) (c .before .enum-told .given .1)
+
+returns-2 : tie.Need-returns-2
+returns-2 c = arm (λ (a : EventGroupEntryType). entry-fields (saidEventgroup a (saidHead (c .before .before .before .args .head)) (saidGroup (c .before .before .before .args .group)))) (c .fields-of2 .ensures) (c .before .enum-told2 .given .1)
+
+pub eventgroup-fields-spec : {M : Type 1} → statement M
+eventgroup-fields-spec =
+    tie.close
+    (tie.spec enum-told fields-of-requires enum-told-2 fields-of-requires-2 returns returns-2)

@@ -1,0 +1,47 @@
+-- Answers as five numbers: document 01's number, 0 for accepted, and the values that it gives, in their order. Assumes nothing: these are
+-- definitions.
+use Prim.Native.Nat.{ℕ, _+_}
+use mathlib.Core.List.{List, [], _∷_}
+use lib.ListN.{getD}
+use Rattle.numbers.specs.Refusals.{Refusal}
+use Rattle.numbers.specs.Answers as paper
+use Rattle.sd_format.specs.Frames.{Frame}
+use Rattle.sd_format.specs.Frames as Frames
+use Rattle.sd_option.specs.Reading.{Head}
+use Rattle.sd_index.specs.Found.{Located}
+use Rattle.hub.specs.declared.answers.Answer.{Answer}
+
+-- a number and its values; places that it does not use hold 0
+abbrev pub row : ℕ → List ℕ → Answer
+row number vs = record { number = number; value0 = getD vs 0 0; value1 = getD vs 1 0; value2 = getD vs 2 0; value3 = getD vs 3 0 }
+
+abbrev pub refusal-row : Refusal → Answer
+refusal-row r = row (r .number) (r .values)
+
+-- what was accepted as 0 with these values, or the refusal
+abbrev pub told : {A : Type 0} → (A → List ℕ) → paper.Answer A → Answer
+told values (paper.accepted a) = row 0 (values a)
+told values (paper.refused r) = refusal-row r
+
+-- ---- the values of what was accepted
+
+abbrev pub no-values : {A : Type 0} → A → List ℕ
+no-values a = []
+
+abbrev pub one-value : ℕ → List ℕ
+one-value n = n ∷ []
+
+-- an option that starts at `at`: its type, where it starts, and how many bytes it takes
+abbrev pub head-values : (at : ℕ) → Head → List ℕ
+head-values at h = h .row .code ∷ at ∷ h .size ∷ []
+
+abbrev pub located-values : Located → List ℕ
+located-values l = head-values (l .offset) (l .head)
+
+-- the same of an option as it stands in the part
+abbrev pub option-values : (at : ℕ) → Frame → List ℕ
+option-values at f = f .type ∷ at ∷ Frames.size f ∷ []
+
+-- the report is as long as the message's header and its payload, which ends there
+abbrev pub report-values : ℕ → List ℕ
+report-values end = (16 + end) ∷ []

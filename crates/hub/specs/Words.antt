@@ -1,0 +1,69 @@
+-- A stream's state as words that the caller keeps: the limit, how many ranges are held, whether an end is known (0 or 1), the end, and as many
+-- pairs of start and end as ranges can be held. Assumes nothing: these are definitions.
+use Prim.Native.Nat.{ℕ, zero, suc, _+_, _*_}
+use mathlib.Core.Bool.{Bool, _||_, cond}
+use mathlib.Core.List.{List, [], _∷_, _++_}
+use lib.ListN.{length, drop, getD}
+use lib.Dec.{ltb, eqb}
+use Rattle.tp_machine.specs.declared.TpRange.{TpRange}
+use Rattle.tp_machine.specs.declared.TpEnd.{TpEnd}
+use Rattle.tp_machine.specs.declared.TpEnd.the-variants.{Unknown, Known}
+use Rattle.tp_machine.specs.Machine.{most, previous}
+use Rattle.tp_stream.specs.declared.TpStream.{TpStream}
+use Rattle.tp_stream.specs.Stream.{blank}
+
+-- as many words as a state has
+abbrev pub size : ℕ
+size = 4 + 2 * most
+
+-- ---- the state that some words hold
+
+-- the pair of number i, behind the first four words
+abbrev pub pair-at : List ℕ → ℕ → TpRange
+pair-at ws i = record { start = getD ws (4 + 2 * i) 0; end = getD ws (5 + 2 * i) 0 }
+
+-- the first n pairs
+unfoldable pub pairs : List ℕ → ℕ → List TpRange
+pairs ws zero = []
+pairs ws (suc n) = pairs ws n ++ (pair-at ws n ∷ [])
+
+abbrev pub end-of : (known end : ℕ) → TpEnd
+end-of known end = cond (eqb known 0) Unknown (Known end)
+
+-- too few words, or neither 0 nor 1 where it is told whether an end is known
+abbrev pub unfit : List ℕ → Bool
+unfit ws = ltb (length ws) size || ltb 1 (getD ws 2 0)
+
+-- a state that is malformed: it holds nothing, and its end is past its limit
+abbrev pub outside : TpStream
+outside = record { limit = 0; ranges = blank .ranges; count = 0; end = Known 1 }
+
+unfoldable pub held-in : List ℕ → TpStream
+held-in ws =
+    record {
+      limit = getD ws 0 0;
+      ranges = pairs ws most;
+      count = getD ws 1 0;
+      end = end-of (getD ws 2 0) (getD ws 3 0);
+    }
+
+-- words that are unfit hold a malformed state
+unfoldable pub stream-of : List ℕ → TpStream
+stream-of ws = cond (unfit ws) outside (held-in ws)
+
+-- ---- the words of a state
+
+unfoldable pub flat : List TpRange → List ℕ
+flat [] = []
+flat (r ∷ rs) = r .start ∷ r .end ∷ flat rs
+
+abbrev pub known : TpEnd → ℕ
+known Unknown = 0
+known (Known e) = 1
+
+unfoldable pub words-of : TpStream → List ℕ
+words-of s = s .limit ∷ s .count ∷ known (s .end) ∷ previous (s .end) ∷ flat (s .ranges)
+
+-- a state put into lent words: too few are left alone, and so are those behind the state
+unfoldable pub put : List ℕ → TpStream → List ℕ
+put ws s = cond (ltb (length ws) size) ws (words-of s ++ drop size ws)

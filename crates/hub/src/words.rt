@@ -1,0 +1,155 @@
+// A stream's state as words that the caller keeps: the limit, how many ranges are held, whether an end is known (0 or 1), the end, and then as
+// many pairs of start and end as ranges can be held.
+use tp_machine::TpEnd;
+use tp_machine::TpRange;
+use tp_range::MAX_RANGES;
+use tp_stream::TpStream;
+ghost use mathlib.Core.Path.{_≡_};
+ghost use Prim.Native.Nat.{_≤_};
+ghost use mathlib.Core.List.{_∷_, _++_};
+ghost use lib.ListN.{length, take, drop};
+ghost use Rattle.tp_machine.specs.Machine.{most, previous, fresh as freshOf};
+ghost use Rattle.tp_stream.specs.Stream.{stored, blank};
+ghost use Rattle.hub.specs.Words.{size, end-of, outside as outsideOf, held-in, stream-of, known, flat, words-of, put as putOf};
+
+// As many words as a state has.
+pub const WORDS: usize = 68;
+
+// The end that two words tell.
+fn end_of(known: u32, end: u32) -> TpEnd
+    ensures { λ r. ⌜ r ≡ end-of known end ⌝ }
+{
+    if known == 0 {
+        return TpEnd::Unknown;
+    }
+    TpEnd::Known(end)
+}
+
+// Whether an end is known, as a word.
+fn known_of(end: TpEnd) -> u32
+    ensures { λ r. ⌜ r ≡ known end ⌝ }
+{
+    match end {
+        TpEnd::Unknown => 0,
+        TpEnd::Known(_) => 1,
+    }
+}
+
+// The end that is known, or 0.
+fn number_of(end: TpEnd) -> u32
+    ensures { λ r. ⌜ r ≡ previous end ⌝ }
+{
+    match end {
+        TpEnd::Unknown => 0,
+        TpEnd::Known(e) => e,
+    }
+}
+
+// A stream that holds nothing.
+pub(crate) fn fresh(limit: u32) -> TpStream
+    ensures { λ r. ⌜ r ≡ stored blank (freshOf limit) ⌝ }
+{
+    let none = TpRange { start: 0, end: 0 };
+    let ranges = [none; MAX_RANGES];
+    TpStream {
+        limit,
+        ranges,
+        count: 0,
+        end: TpEnd::Unknown,
+    }
+}
+
+// A stream that is malformed.
+fn outside() -> TpStream
+    ensures { λ r. ⌜ r ≡ outsideOf ⌝ }
+{
+    let none = TpRange { start: 0, end: 0 };
+    let ranges = [none; MAX_RANGES];
+    TpStream {
+        limit: 0,
+        ranges,
+        count: 0,
+        end: TpEnd::Known(1),
+    }
+}
+
+// The stream that these words hold.
+fn held_in(words: &[u32]) -> TpStream
+    requires { ⌜ size ≤ length (now words) ⌝ }
+    ensures { λ r. ⌜ r ≡ held-in (now (words .entry)) ⌝ }
+{
+    let none = TpRange { start: 0, end: 0 };
+    let mut ranges = [none; MAX_RANGES];
+    let mut i: usize = 0;
+    while i < MAX_RANGES {
+        ranges[i] = TpRange {
+            start: words[4 + 2 * i],
+            end: words[5 + 2 * i],
+        };
+        i += 1;
+    }
+    TpStream {
+        limit: words[0],
+        ranges,
+        count: words[1] as usize,
+        end: end_of(words[2], words[3]),
+    }
+}
+
+// The same of any words: those that are too few, or do not tell whether an end is known, hold a malformed stream.
+pub(crate) fn stream_of(words: &[u32]) -> TpStream
+    ensures { λ r. ⌜ r ≡ stream-of (now (words .entry)) ⌝ }
+{
+    if words.len() < WORDS {
+        return outside();
+    }
+    if 1 < words[2] {
+        return outside();
+    }
+    held_in(words)
+}
+
+// The ranges into the words behind the first four.
+fn put_ranges(words: &mut [u32], ranges: [TpRange; MAX_RANGES])
+    requires { ⌜ size ≤ length (now words) ⌝ }
+    ensures { λ _. ⌜ now (words .exit) ≡ take 4 (now (words .entry)) ++ (flat ranges ++ drop size (now (words .entry))) ⌝ }
+{
+    let mut i: usize = 0;
+    while i < MAX_RANGES {
+        let r = ranges[i];
+        words[4 + 2 * i] = r.start;
+        words[5 + 2 * i] = r.end;
+        i += 1;
+    }
+}
+
+// Four numbers into the first four words.
+fn put_front(words: &mut [u32], a: u32, b: u32, c: u32, d: u32)
+    requires { ⌜ 4 ≤ length (now words) ⌝ }
+    ensures { λ _. ⌜ now (words .exit) ≡ a ∷ b ∷ c ∷ d ∷ drop 4 (now (words .entry)) ⌝ }
+{
+    words[0] = a;
+    words[1] = b;
+    words[2] = c;
+    words[3] = d;
+}
+
+// A stream into the words that were lent; too few are left alone.
+pub(crate) fn put(words: &mut [u32], stream: TpStream)
+    requires { ⌜ stream .count ≤ most ⌝ }
+    ensures { λ _. ⌜ now (words .exit) ≡ putOf (now (words .entry)) stream ⌝ }
+{
+    if words.len() < WORDS {
+        return;
+    }
+    let end = stream.end;
+    put_front(
+        words,
+        stream.limit,
+        stream.count as u32,
+        known_of(end),
+        number_of(end),
+    );
+    let ranges = stream.ranges;
+    put_ranges(words, ranges);
+}
