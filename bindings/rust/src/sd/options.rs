@@ -1,0 +1,296 @@
+//! One option. Its kind, its part and its fields are read by the library; a configuration option's string and its discardable bit are cut
+//! off its part here, since lookups do not scan the string again.
+
+use crate::{ffi, Refusal};
+
+/// The bit of an option's first byte by which a receiver may discard it.
+pub const DISCARDABLE_FLAG: u8 = 0x80;
+
+/// The transport protocol of an endpoint. Reading does not judge it.
+#[derive(Clone, Copy, Debug, PartialEq, Eq, Hash)]
+#[allow(missing_docs)]
+pub enum TransportProtocol {
+    Tcp,
+    Udp,
+    Generic(u8),
+}
+
+impl From<u8> for TransportProtocol {
+    fn from(code: u8) -> Self {
+        match code {
+            0x06 => TransportProtocol::Tcp,
+            0x11 => TransportProtocol::Udp,
+            other => TransportProtocol::Generic(other),
+        }
+    }
+}
+
+impl From<TransportProtocol> for u8 {
+    fn from(protocol: TransportProtocol) -> u8 {
+        match protocol {
+            TransportProtocol::Tcp => 0x06,
+            TransportProtocol::Udp => 0x11,
+            TransportProtocol::Generic(other) => other,
+        }
+    }
+}
+
+/// Whether a configuration string is well-formed; 9 where it is not.
+///
+/// ```
+/// use viaductle::sd::options::validate_configuration_string;
+/// use viaductle::{Refusal, SdConfigurationStringError};
+///
+/// assert_eq!(validate_configuration_string(b"\x03a=1\0"), Ok(()));
+/// let error = SdConfigurationStringError::EmptyKey { item_offset: 0 };
+/// assert_eq!(validate_configuration_string(b"\x02=1\0"), Err(Refusal::ConfigurationString(error)));
+/// ```
+pub fn validate_configuration_string(string: &[u8]) -> Result<(), Refusal> {
+    ffi::string(string).accepted()?;
+    Ok(())
+}
+
+/// A configuration option (0x01).
+#[derive(Clone, Copy, Debug, PartialEq, Eq, Hash)]
+pub struct ConfigurationSlice<'a> {
+    slice: &'a [u8],
+}
+
+impl<'a> ConfigurationSlice<'a> {
+    /// The bytes after the type.
+    pub fn slice(&self) -> &'a [u8] {
+        self.slice
+    }
+
+    /// Whether a receiver may discard it.
+    pub fn discardable(&self) -> bool {
+        self.slice[0] & DISCARDABLE_FLAG != 0
+    }
+
+    /// The string, its closing zero byte included.
+    pub fn configuration_string(&self) -> &'a [u8] {
+        &self.slice[1..]
+    }
+}
+
+/// A load balancing option (0x02).
+#[derive(Clone, Copy, Debug, PartialEq, Eq, Hash)]
+pub struct LoadBalancingSlice<'a> {
+    slice: &'a [u8],
+    discardable: bool,
+    priority: u16,
+    weight: u16,
+}
+
+impl<'a> LoadBalancingSlice<'a> {
+    /// The bytes after the type.
+    pub fn slice(&self) -> &'a [u8] {
+        self.slice
+    }
+
+    /// Whether a receiver may discard it.
+    pub fn discardable(&self) -> bool {
+        self.discardable
+    }
+
+    /// The priority.
+    pub fn priority(&self) -> u16 {
+        self.priority
+    }
+
+    /// The weight.
+    pub fn weight(&self) -> u16 {
+        self.weight
+    }
+}
+
+/// An option of another type.
+#[derive(Clone, Copy, Debug, PartialEq, Eq, Hash)]
+pub struct UnknownSlice<'a> {
+    slice: &'a [u8],
+    option_type: u8,
+    discardable: bool,
+}
+
+impl<'a> UnknownSlice<'a> {
+    /// The bytes after the type.
+    pub fn slice(&self) -> &'a [u8] {
+        self.slice
+    }
+
+    /// The type.
+    pub fn option_type(&self) -> u8 {
+        self.option_type
+    }
+
+    /// Whether a receiver may discard it.
+    pub fn discardable(&self) -> bool {
+        self.discardable
+    }
+}
+
+/// An option with an address: six types differ in their names and the address's width.
+macro_rules! addressed {
+    ($name:ident, $address:ident, $width:literal, $what:literal) => {
+        #[doc = $what]
+        #[derive(Clone, Copy, Debug, PartialEq, Eq, Hash)]
+        pub struct $name<'a> {
+            slice: &'a [u8],
+            address: [u8; $width],
+            transport_protocol: TransportProtocol,
+            port: u16,
+        }
+
+        impl<'a> $name<'a> {
+            /// The option, whose bytes are `option`, with the fields that the library read.
+            fn of(read: &ffi::Opt, option: &'a [u8]) -> Self {
+                debug_assert_eq!(read.address_len, $width);
+                let mut address = [0; $width];
+                address.copy_from_slice(&option[read.address_at as usize..][..$width]);
+                $name {
+                    slice: &option[HEADER..],
+                    address,
+                    transport_protocol: (read.protocol as u8).into(),
+                    port: read.port as u16,
+                }
+            }
+
+            /// The bytes after the type.
+            pub fn slice(&self) -> &'a [u8] {
+                self.slice
+            }
+
+            /// The address.
+            pub fn $address(&self) -> [u8; $width] {
+                self.address
+            }
+
+            /// The transport protocol, which reading does not judge.
+            pub fn transport_protocol(&self) -> TransportProtocol {
+                self.transport_protocol
+            }
+
+            /// The port.
+            pub fn port(&self) -> u16 {
+                self.port
+            }
+        }
+    };
+}
+
+addressed!(
+    Ipv4EndpointSlice,
+    ipv4_address,
+    4,
+    "An IPv4 endpoint (0x04)."
+);
+addressed!(
+    Ipv6EndpointSlice,
+    ipv6_address,
+    16,
+    "An IPv6 endpoint (0x06)."
+);
+addressed!(
+    Ipv4MulticastSlice,
+    ipv4_address,
+    4,
+    "An IPv4 multicast address (0x14)."
+);
+addressed!(
+    Ipv6MulticastSlice,
+    ipv6_address,
+    16,
+    "An IPv6 multicast address (0x16)."
+);
+addressed!(
+    Ipv4SdEndpointSlice,
+    ipv4_address,
+    4,
+    "An IPv4 endpoint of service discovery (0x24)."
+);
+addressed!(
+    Ipv6SdEndpointSlice,
+    ipv6_address,
+    16,
+    "An IPv6 endpoint of service discovery (0x26)."
+);
+
+/// One option, of any kind.
+#[derive(Clone, Copy, Debug, PartialEq, Eq, Hash)]
+#[allow(missing_docs)]
+pub enum SdOptionSlice<'a> {
+    Configuration(ConfigurationSlice<'a>),
+    LoadBalancing(LoadBalancingSlice<'a>),
+    Ipv4Endpoint(Ipv4EndpointSlice<'a>),
+    Ipv6Endpoint(Ipv6EndpointSlice<'a>),
+    Ipv4Multicast(Ipv4MulticastSlice<'a>),
+    Ipv6Multicast(Ipv6MulticastSlice<'a>),
+    Ipv4SdEndpoint(Ipv4SdEndpointSlice<'a>),
+    Ipv6SdEndpoint(Ipv6SdEndpointSlice<'a>),
+    Unknown(UnknownSlice<'a>),
+}
+
+/// The bytes of an option before its part: length and type.
+const HEADER: usize = 3;
+
+impl<'a> SdOptionSlice<'a> {
+    /// The option in front of these bytes, and the bytes after it. Refused by 7, 8 and 9.
+    pub fn from_slice(slice: &'a [u8]) -> Result<(Self, &'a [u8]), Refusal> {
+        let read = ffi::read_option(slice);
+        read.answer.accepted()?;
+        let (option, rest) = slice.split_at(read.size as usize);
+        Ok((Self::of(&read, option), rest))
+    }
+
+    /// The option that a lookup or a cursor found among `options`. A configuration string is not scanned again.
+    pub(super) fn found(answer: ffi::Answer, options: &'a [u8]) -> Result<Self, Refusal> {
+        let [code, at, size, _] = answer.accepted()?;
+        let option = &options[at as usize..][..size as usize];
+        if code == CONFIGURATION {
+            return Ok(Self::configuration(option));
+        }
+        let read = ffi::read_option(option);
+        read.answer.accepted()?;
+        Ok(Self::of(&read, option))
+    }
+
+    fn configuration(option: &'a [u8]) -> Self {
+        Self::Configuration(ConfigurationSlice {
+            slice: &option[HEADER..],
+        })
+    }
+
+    /// The option, whose bytes are `option`, with the fields that the library read.
+    fn of(read: &ffi::Opt, option: &'a [u8]) -> Self {
+        let slice = &option[HEADER..];
+        let discardable = read.discardable != 0;
+        match read.code {
+            CONFIGURATION => {
+                debug_assert_eq!(
+                    [read.string_at, read.string_len],
+                    [4, slice.len() as u64 - 1]
+                );
+                Self::configuration(option)
+            }
+            0x02 => Self::LoadBalancing(LoadBalancingSlice {
+                slice,
+                discardable,
+                priority: read.priority as u16,
+                weight: read.weight as u16,
+            }),
+            0x04 => Self::Ipv4Endpoint(Ipv4EndpointSlice::of(read, option)),
+            0x06 => Self::Ipv6Endpoint(Ipv6EndpointSlice::of(read, option)),
+            0x14 => Self::Ipv4Multicast(Ipv4MulticastSlice::of(read, option)),
+            0x16 => Self::Ipv6Multicast(Ipv6MulticastSlice::of(read, option)),
+            0x24 => Self::Ipv4SdEndpoint(Ipv4SdEndpointSlice::of(read, option)),
+            0x26 => Self::Ipv6SdEndpoint(Ipv6SdEndpointSlice::of(read, option)),
+            code => Self::Unknown(UnknownSlice {
+                slice,
+                option_type: code as u8,
+                discardable,
+            }),
+        }
+    }
+}
+
+const CONFIGURATION: u64 = 0x01;

@@ -1,0 +1,136 @@
+//! A whole payload.
+
+use super::{
+    entries::ENTRY_LEN, SdEntriesIterator, SdEntriesWithOptionsIterator, SdOptionsIndex,
+    SdOptionsIterator,
+};
+use crate::{ffi, Refusal};
+
+/// What a reading may be told.
+///
+/// ```
+/// use viaductle::sd::Settings;
+///
+/// let settings = Settings { discard_unknown_option: true, ..Default::default() };
+/// ```
+#[derive(Clone, Copy, Debug, Default, PartialEq, Eq, Hash)]
+pub struct Settings {
+    /// Whether an option of unknown type passes though it may not be discarded; otherwise it is 10.
+    pub discard_unknown_option: bool,
+}
+
+/// The three flags of a payload's first byte.
+#[derive(Clone, Debug, PartialEq, Eq, Hash)]
+#[allow(missing_docs)]
+pub struct SdHeaderFlags {
+    pub reboot: bool,
+    pub unicast: bool,
+    pub explicit_initial_data_control: bool,
+}
+
+/// A payload that was read: its flags, entries and options, which stay where they are.
+///
+/// ```
+/// use viaductle::sd::{OffsetTable, SdSlice, Settings};
+///
+/// // No entries, and one option of unknown type 0x77 that may not be discarded.
+/// let payload = [0, 0, 0, 0, 0, 0, 0, 0, 0, 0, 0, 4, 0, 1, 0x77, 0];
+/// let mut table = OffsetTable::new();
+/// let refusal = SdSlice::from_slice(&payload, &mut table).unwrap_err();
+/// assert_eq!((refusal.number(), refusal.values()[0]), (10, 0x77));
+///
+/// let settings = Settings { discard_unknown_option: true, ..Default::default() };
+/// let sd = SdSlice::from_slice_with(&payload, &mut table, settings)?;
+/// assert_eq!((sd.entries().count(), sd.options().count()), (0, 1));
+/// # Ok::<(), viaductle::Refusal>(())
+/// ```
+#[derive(Clone, Debug, PartialEq, Eq)]
+pub struct SdSlice<'a, 't> {
+    flags: SdHeaderFlags,
+    entries: &'a [u8],
+    options_index: SdOptionsIndex<'a, 't>,
+}
+
+impl<'a, 't> SdSlice<'a, 't> {
+    /// Reads a payload into the lent table, unknown options that may not be discarded refused.
+    ///
+    /// Refused by 22, 1 to 9, 10, 11 and 12, in document 01's order. After a refusal the table's 347 slots hold 0; after 22 nothing has
+    /// changed. Slots past 347 are never touched.
+    pub fn from_slice(payload: &'a [u8], table: &'t mut [u16]) -> Result<Self, Refusal> {
+        Self::from_slice_with(payload, table, Settings::default())
+    }
+
+    /// [`from_slice_with`](Self::from_slice_with), told the one setting that someip_parse has.
+    pub fn from_slice_with_flag(
+        payload: &'a [u8],
+        table: &'t mut [u16],
+        discard_unknown_option: bool,
+    ) -> Result<Self, Refusal> {
+        let settings = Settings {
+            discard_unknown_option,
+        };
+        Self::from_slice_with(payload, table, settings)
+    }
+
+    /// Reads a payload into the lent table as the settings say; refusals as with [`from_slice`](Self::from_slice).
+    pub fn from_slice_with(
+        payload: &'a [u8],
+        table: &'t mut [u16],
+        settings: Settings,
+    ) -> Result<Self, Refusal> {
+        let answer = ffi::read(payload, table, settings.discard_unknown_option);
+        Self::of(answer, payload, table)
+    }
+
+    /// The payload that the library read into the table.
+    pub(super) fn of(
+        answer: ffi::Answer,
+        payload: &'a [u8],
+        table: &'t [u16],
+    ) -> Result<Self, Refusal> {
+        let [flags, entries, options, _] = answer.accepted()?;
+        let parts = ffi::parts(payload).accepted()?;
+        let [entries_at, entries_len, options_at, options_len] = parts.map(|part| part as usize);
+        debug_assert_eq!(entries as usize * ENTRY_LEN, entries_len);
+        let options_part = &payload[options_at..][..options_len];
+        Ok(SdSlice {
+            flags: SdHeaderFlags {
+                reboot: flags & 0x80 != 0,
+                unicast: flags & 0x40 != 0,
+                explicit_initial_data_control: flags & 0x20 != 0,
+            },
+            entries: &payload[entries_at..][..entries_len],
+            options_index: SdOptionsIndex::from_table(options_part, table, options as usize),
+        })
+    }
+
+    /// The flags.
+    pub fn flags(&self) -> &SdHeaderFlags {
+        &self.flags
+    }
+
+    /// The entries part.
+    pub fn entries_slice(&self) -> &'a [u8] {
+        self.entries
+    }
+
+    /// The entries. None is refused, since the reading judged them all.
+    pub fn entries(&self) -> SdEntriesIterator<'a> {
+        SdEntriesIterator::new(self.entries)
+    }
+
+    /// The options. None is refused, since the reading judged them all.
+    pub fn options(&self) -> SdOptionsIterator<'a> {
+        SdOptionsIterator::new(self.options_index.options())
+    }
+
+    /// The options by their place.
+    pub fn options_index(&self) -> &SdOptionsIndex<'a, 't> {
+        &self.options_index
+    }
+
+    /// The entries with their runs of options.
+    pub fn entries_with_options(&self) -> SdEntriesWithOptionsIterator<'a, 't> {
+        SdEntriesWithOptionsIterator::new(self.entries(), self.options_index)
+    }
+}

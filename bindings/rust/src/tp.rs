@@ -1,0 +1,170 @@
+//! One stream of TP segments, joined in a lent buffer.
+
+use crate::{ffi, Refusal, SomeipMsgSlice};
+
+/// The highest payload limit of a stream.
+pub const MAX_TP_PAYLOAD_LEN: u32 = ffi::MAX_LIMIT;
+
+/// The words of a stream's state.
+pub const TP_STREAM_WORDS: usize = ffi::WORDS;
+
+/// A part of the report that has arrived: offsets into its payload, the end not included.
+#[derive(Clone, Copy, Debug, PartialEq, Eq, PartialOrd, Ord, Hash)]
+#[allow(missing_docs)]
+pub struct TpRange {
+    pub start: u32,
+    pub end: u32,
+}
+
+/// The state of a stream, apart from its buffer: for a caller who keeps many streams and lends each its buffer call by call. [`TpBuf`] is one
+/// with its buffer.
+///
+/// It is a value of plain words, and equal to another where all words are. Words that are no state of a stream are refused by 38, and are not
+/// complete.
+#[derive(Clone, Copy, Debug, PartialEq, Eq, Hash)]
+pub struct TpStream {
+    words: [u32; TP_STREAM_WORDS],
+}
+
+impl TpStream {
+    /// A stream that has received nothing, for reports of at most `limit` bytes of payload; 36 above [`MAX_TP_PAYLOAD_LEN`].
+    pub fn new(limit: u32) -> Result<Self, Refusal> {
+        let mut words = [0; TP_STREAM_WORDS];
+        ffi::begin(&mut words, limit).accepted()?;
+        Ok(TpStream { words })
+    }
+
+    /// The stream of these words, which are not judged here: limit, count of ranges, 1 if an end is known and else 0, the end, then start and
+    /// end of each of the 32 ranges.
+    pub fn from_words(words: [u32; TP_STREAM_WORDS]) -> Self {
+        TpStream { words }
+    }
+
+    /// The words, to keep them elsewhere.
+    pub fn words(&self) -> &[u32; TP_STREAM_WORDS] {
+        &self.words
+    }
+
+    /// One segment, a whole message with its header, comes. Refused by 38, 30, 31, 32, 33, 34 and 35, in this order; a refusal leaves stream
+    /// and buffer as they were.
+    ///
+    /// That all segments of a stream have one sender, message id and request id is the caller's care, as with someip_parse.
+    pub fn consume_tp(&mut self, segment: &[u8], buffer: &mut [u8]) -> Result<(), Refusal> {
+        ffi::consume(&mut self.words, segment, buffer).accepted()?;
+        Ok(())
+    }
+
+    /// Whether the whole report has arrived.
+    pub fn is_complete(&self) -> bool {
+        matches!(ffi::complete(&self.words).accepted(), Ok([1, ..]))
+    }
+
+    /// The report, which is the front of the buffer, its length field set; refused by 38, 37 and 34. The stream stays as it is.
+    pub fn take<'b>(&self, buffer: &'b mut [u8]) -> Result<SomeipMsgSlice<'b>, Refusal> {
+        let [len, ..] = ffi::take(&self.words, buffer).accepted()?;
+        SomeipMsgSlice::of(&buffer[..len as usize]).ok_or(Refusal::NotComplete)
+    }
+
+    /// Forgets ranges and end, keeps the limit, touches no byte of a buffer.
+    pub fn clear(&mut self) {
+        // It is refused only with fewer words than a state has.
+        let _ = ffi::clear(&mut self.words);
+    }
+
+    /// The payload limit.
+    pub fn limit(&self) -> u32 {
+        self.words[0]
+    }
+
+    /// The report's end, once a final segment came.
+    pub fn end(&self) -> Option<u32> {
+        (self.words[2] != 0).then_some(self.words[3])
+    }
+
+    /// What has arrived. The order says nothing.
+    pub fn ranges(&self) -> impl Iterator<Item = TpRange> + '_ {
+        let range = |pair: &[u32]| TpRange {
+            start: pair[0],
+            end: pair[1],
+        };
+        self.words[4..]
+            .chunks(2)
+            .map(range)
+            .take(self.words[1] as usize)
+    }
+}
+
+/// A stream with the buffer that it was lent.
+///
+/// ```
+/// use viaductle::TpBuf;
+///
+/// // Two segments of a report: 16 bytes at 0 with more to follow, and 4 at 16.
+/// let segment = |offset_and_more: u8, payload: &[u8]| {
+///     let mut bytes = vec![0x12, 0x34, 0x80, 0x01, 0, 0, 0, 12 + payload.len() as u8];
+///     bytes.extend([0, 0, 0, 1, 1, 1, 0x22, 0, 0, 0, 0, offset_and_more]);
+///     bytes.extend(payload);
+///     bytes
+/// };
+/// let mut buffer = [0; 16 + 1024];
+/// let mut stream = TpBuf::new(1024, &mut buffer)?;
+/// stream.consume_tp(&segment(16, b"done"))?;
+/// assert!(stream.try_finalize().is_none());
+/// stream.consume_tp(&segment(0 | 1, b"sixteen bytes, a"))?;
+/// assert!(stream.is_complete());
+/// let report = stream.try_finalize().unwrap();
+/// assert_eq!((report.message_id(), report.length()), (0x1234_8001, 8 + 20));
+/// assert_eq!(report.payload(), b"sixteen bytes, adone");
+/// stream.clear();
+/// # Ok::<(), viaductle::Refusal>(())
+/// ```
+#[derive(Debug)]
+pub struct TpBuf<'b> {
+    stream: TpStream,
+    buffer: &'b mut [u8],
+}
+
+impl<'b> TpBuf<'b> {
+    /// A stream that has received nothing, for reports of at most `limit` bytes of payload; 36 above [`MAX_TP_PAYLOAD_LEN`].
+    ///
+    /// A buffer of 16 plus the limit holds every report; with a shorter one a segment past it is refused by 34. Bytes that no segment
+    /// covers keep what the caller left there.
+    pub fn new(limit: u32, buffer: &'b mut [u8]) -> Result<Self, Refusal> {
+        Ok(Self::resume(TpStream::new(limit)?, buffer))
+    }
+
+    /// A stream that was kept apart, with its buffer.
+    pub fn resume(stream: TpStream, buffer: &'b mut [u8]) -> Self {
+        TpBuf { stream, buffer }
+    }
+
+    /// The stream's state: limit, end and ranges.
+    pub fn stream(&self) -> &TpStream {
+        &self.stream
+    }
+
+    /// One segment comes: see [`TpStream::consume_tp`].
+    pub fn consume_tp(&mut self, segment: &[u8]) -> Result<(), Refusal> {
+        self.stream.consume_tp(segment, self.buffer)
+    }
+
+    /// Whether the whole report has arrived.
+    pub fn is_complete(&self) -> bool {
+        self.stream.is_complete()
+    }
+
+    /// The report, if it is complete.
+    pub fn try_finalize(&mut self) -> Option<SomeipMsgSlice<'_>> {
+        self.take().ok()
+    }
+
+    /// The same with the refusal: see [`TpStream::take`].
+    pub fn take(&mut self) -> Result<SomeipMsgSlice<'_>, Refusal> {
+        self.stream.take(self.buffer)
+    }
+
+    /// Forgets what has arrived and keeps limit and buffer, for the next report.
+    pub fn clear(&mut self) {
+        self.stream.clear();
+    }
+}

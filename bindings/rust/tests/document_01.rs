@@ -1,0 +1,252 @@
+//! Document 01's cases, 'both sides of each line', through the safe types.
+
+mod common;
+use common::*;
+use viaductle::sd::entries::SdServiceEntryType;
+use viaductle::sd::options::{validate_configuration_string, TransportProtocol};
+use viaductle::sd::{OffsetTable, SdEntrySlice, SdMessage, SdOptionSlice, SdSlice, Settings};
+use viaductle::{Refusal, TpBuf};
+
+/// The number and values of a payload's refusal, or 0 and the counts of entries and options.
+fn read(payload: &[u8], discard: bool) -> (u64, Vec<u64>) {
+    match SdSlice::from_slice_with_flag(payload, &mut OffsetTable::new(), discard) {
+        Ok(sd) => {
+            let counts = [sd.entries().count(), sd.options().count()];
+            (0, counts.map(|n| n as u64).to_vec())
+        }
+        Err(refusal) => (refusal.number(), refusal.values().to_vec()),
+    }
+}
+
+fn with(text: &str, at: usize, byte: u8) -> Vec<u8> {
+    let mut bytes = hex(text);
+    bytes[at] = byte;
+    bytes
+}
+
+#[test]
+fn sizes() {
+    assert_eq!(read(&[0; 12], false), (0, vec![0, 0]));
+    assert_eq!(read(&[0; 11], false), (1, vec![12]));
+    assert_eq!(read(&[0; 13], false), (6, vec![12, 13]));
+    assert_eq!(
+        read(&hex("00000000 00000011 00000000"), false),
+        (3, vec![17])
+    );
+    assert_eq!(
+        read(&hex("00000000 00000010 00000000"), false),
+        (1, vec![28])
+    );
+    let mut large = payload(&[0; 16], &[]);
+    large[24..28].copy_from_slice(&1388u32.to_be_bytes());
+    assert_eq!(read(&large, false), (5, vec![1416]));
+    let many = payload(&[], &hex("00017780").repeat(347));
+    assert_eq!(read(&many, false), (0, vec![0, 347]));
+}
+
+#[test]
+fn flags() {
+    for (byte, flags) in [
+        (0x80, [true, false, false]),
+        (0x40, [false, true, false]),
+        (0x20, [false, false, true]),
+        (0x1f, [false; 3]),
+    ] {
+        let bytes = with("000000000000000000000000", 0, byte);
+        let mut table = OffsetTable::new();
+        let sd = SdSlice::from_slice(&bytes, &mut table).unwrap();
+        let said = sd.flags();
+        let said = [
+            said.reboot,
+            said.unicast,
+            said.explicit_initial_data_control,
+        ];
+        assert_eq!(said, flags, "{byte:#04x}");
+    }
+}
+
+#[test]
+fn the_whole_payload() {
+    let bytes = hex(WHOLE);
+    let mut table = OffsetTable::new();
+    let sd = SdSlice::from_slice(&bytes, &mut table).unwrap();
+    let flags = sd.flags();
+    assert!(flags.reboot && !flags.unicast && !flags.explicit_initial_data_control);
+    assert_eq!(sd.entries_slice(), &bytes[8..24]);
+    assert_eq!(sd.options_index().options(), &bytes[28..]);
+
+    let entries: Vec<_> = sd.entries_with_options().map(Result::unwrap).collect();
+    let [offer] = &entries[..] else { panic!() };
+    let SdEntrySlice::Service(entry) = offer.entry() else {
+        panic!()
+    };
+    assert_eq!(entry.entry_type(), SdServiceEntryType::OfferService);
+    assert_eq!((entry.service_id(), entry.instance_id()), (0x1234, 0x5678));
+    assert_eq!(
+        (entry.major_version(), entry.minor_version()),
+        (1, 0x0100_0000)
+    );
+    assert_eq!(entry.ttl().value(), 3600);
+    assert_eq!(offer.options_run_2().count(), 0);
+
+    let options: Vec<_> = offer.options_run_1().collect();
+    let [SdOptionSlice::Ipv4Endpoint(endpoint)] = &options[..] else {
+        panic!()
+    };
+    assert_eq!(endpoint.ipv4_address(), [192, 168, 1, 1]);
+    assert_eq!(endpoint.transport_protocol(), TransportProtocol::Tcp);
+    assert_eq!(endpoint.port(), 8080);
+    assert_eq!(endpoint.slice(), &bytes[31..]);
+}
+
+#[test]
+fn runs() {
+    assert_eq!(read(&with(WHOLE, 9, 1), false), (12, vec![1, 1, 1, 1]));
+    let mut none = with(WHOLE, 11, 0);
+    none[9] = 200;
+    assert_eq!(read(&none, false), (0, vec![1, 1]));
+}
+
+#[test]
+fn unknown_options() {
+    let may = payload(&[], &hex("00017780"));
+    let may_not = payload(&[], &hex("00017700"));
+    assert_eq!(read(&may, false), (0, vec![0, 1]));
+    assert_eq!(read(&may_not, false), (10, vec![0x77]));
+    assert_eq!(read(&may_not, true), (0, vec![0, 1]));
+}
+
+#[test]
+fn strings() {
+    for (text, values) in [
+        ("", &[1][..]),
+        ("0000", &[3, 0]),
+        ("013D00", &[4, 0]),
+        ("012000", &[6, 0]),
+        ("0241FF00", &[5, 0, 1, 255]),
+        ("054100", &[2, 0, 5, 2]),
+        ("0141", &[1]),
+    ] {
+        let refusal = validate_configuration_string(&hex(text)).unwrap_err();
+        assert_eq!(
+            (refusal.number(), &refusal.values()[..]),
+            (9, values),
+            "{text}"
+        );
+    }
+    assert_eq!(validate_configuration_string(&hex("00")), Ok(()));
+    assert_eq!(validate_configuration_string(&hex("03413DFF00")), Ok(()));
+}
+
+#[test]
+fn messages() {
+    let message = [hex(HEADER), hex(WHOLE)].concat();
+    let mut table = OffsetTable::new();
+    let sd = SdMessage::from_slice(&message, &mut table).unwrap();
+    assert_eq!(sd.header().session_id(), 7);
+    assert_eq!(sd.header().payload(), &message[16..]);
+    assert_eq!(sd.sd().entries_slice(), &message[24..40]);
+
+    let unknown = [hex(HEADER), payload(&[], &hex("00017700"))].concat();
+    let discard = Settings {
+        discard_unknown_option: true,
+    };
+    assert!(SdMessage::from_slice_with(&unknown, &mut table, discard).is_ok());
+    let refusal = SdMessage::from_slice(&unknown, &mut table).unwrap_err();
+    assert_eq!(refusal.number(), 10);
+}
+
+#[test]
+fn header_fields() {
+    // Neither the length field nor the protocol version is judged.
+    let message = hex("FFFF8100 01020304 00000506 09010200 000000000000000000000000");
+    let mut table = OffsetTable::new();
+    let header = SdMessage::from_slice(&message, &mut table)
+        .unwrap()
+        .header();
+    assert_eq!(header.slice(), message);
+    assert_eq!(
+        (header.service_id(), header.event_or_method_id()),
+        (0xffff, 0x8100)
+    );
+    assert_eq!(
+        (header.length(), header.request_id()),
+        (0x0102_0304, 0x0506)
+    );
+    assert_eq!((header.client_id(), header.session_id()), (0, 0x0506));
+    assert_eq!(
+        (header.protocol_version(), header.interface_version()),
+        (9, 1)
+    );
+
+    let mut final_segment = segment(0, false, &[]);
+    final_segment[8..16].copy_from_slice(&hex("AABBCCDD 0105A177"));
+    let mut buffer = [0; 16];
+    let mut stream = TpBuf::new(0, &mut buffer).unwrap();
+    stream.consume_tp(&final_segment).unwrap();
+    let header = stream.take().unwrap();
+    assert_eq!((header.message_id(), header.length()), (0x1234_8001, 8));
+    assert_eq!(
+        (header.request_id(), header.client_id()),
+        (0xaabb_ccdd, 0xaabb)
+    );
+    assert_eq!(
+        (header.protocol_version(), header.interface_version()),
+        (1, 5)
+    );
+    assert_eq!(
+        (header.message_type_raw(), header.return_code()),
+        (0x81, 0x77)
+    );
+}
+
+#[test]
+fn two_segments() {
+    let mut buffer = [0xee; 16 + 64];
+    let mut stream = TpBuf::new(64, &mut buffer).unwrap();
+    stream.consume_tp(&segment(0, true, &[1; 16])).unwrap();
+    assert_eq!(stream.take().unwrap_err(), Refusal::NotComplete);
+    stream.consume_tp(&segment(16, false, &[2; 16])).unwrap();
+    assert!(stream.is_complete());
+    let report = stream.try_finalize().unwrap();
+    assert_eq!(report.length(), 40);
+    assert_eq!(report.message_type_raw(), 0x02);
+    assert_eq!(report.payload(), [[1; 16], [2; 16]].concat());
+    assert_eq!(buffer[48..], [0xee; 32]);
+}
+
+#[test]
+fn ends_and_limits() {
+    let mut buffer = [0; 16 + 64];
+    let mut stream = TpBuf::new(64, &mut buffer).unwrap();
+    let uneven = Refusal::UnalignedTpPayloadLen {
+        offset: 0,
+        payload_len: 15,
+    };
+    assert_eq!(stream.consume_tp(&segment(0, true, &[0; 15])), Err(uneven));
+    assert_eq!(stream.consume_tp(&segment(0, false, &[0; 15])), Ok(()));
+
+    stream.clear();
+    stream.consume_tp(&segment(0, false, &[0; 16])).unwrap();
+    let conflict = Refusal::ConflictingEnd {
+        previous_end: 16,
+        conflicting_end: 32,
+    };
+    assert_eq!(
+        stream.consume_tp(&segment(16, true, &[0; 16])),
+        Err(conflict)
+    );
+
+    stream.clear();
+    stream.consume_tp(&segment(0, false, &[])).unwrap();
+    assert_eq!(stream.try_finalize().unwrap().length(), 8);
+
+    let mut stream = TpBuf::new(32, &mut buffer).unwrap();
+    assert_eq!(stream.consume_tp(&segment(32, true, &[])), Ok(()));
+    let past = Refusal::SegmentTooBig {
+        offset: 48,
+        payload_len: 0,
+        max: 32,
+    };
+    assert_eq!(stream.consume_tp(&segment(48, true, &[])), Err(past));
+}

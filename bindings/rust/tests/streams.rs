@@ -1,0 +1,169 @@
+//! Streams: order, overlaps, gaps, refusals that change nothing, malformed states.
+
+mod common;
+use common::*;
+use viaductle::{Refusal, TpBuf, TpRange, TpStream};
+
+#[test]
+fn a_report_in_any_order() {
+    let report: Vec<u8> = (0..100).collect();
+    let pieces = [(0, 32), (32, 48), (48, 96), (96, 100)];
+    for order in [[0, 1, 2, 3], [3, 2, 1, 0], [2, 0, 3, 1]] {
+        let mut buffer = [0xee; 16 + 128];
+        let mut stream = TpBuf::new(128, &mut buffer).unwrap();
+        for piece in order {
+            assert!(!stream.is_complete());
+            let (start, end) = pieces[piece];
+            let bytes = &report[start..end];
+            stream
+                .consume_tp(&segment(start as u32, end != 100, bytes))
+                .unwrap();
+        }
+        assert_eq!(stream.stream().end(), Some(100));
+        let whole = TpRange { start: 0, end: 100 };
+        assert_eq!(stream.stream().ranges().collect::<Vec<_>>(), [whole]);
+        let taken = stream.take().unwrap();
+        assert_eq!(taken.payload(), report);
+        assert_eq!(
+            taken.slice()[..16],
+            hex("12348001 0000006C 00000001 01010200")
+        );
+        assert_eq!(
+            stream.try_finalize().unwrap().payload(),
+            report,
+            "it can be taken again"
+        );
+        stream.clear();
+        assert_eq!(
+            (stream.stream().limit(), stream.stream().end()),
+            (128, None)
+        );
+        assert_eq!(stream.stream().ranges().count(), 0);
+        assert_eq!(buffer[116..], [0xee; 28], "the caller's bytes stay");
+    }
+}
+
+#[test]
+fn the_newest_bytes_win() {
+    let mut buffer = [0; 64];
+    let mut stream = TpBuf::new(48, &mut buffer).unwrap();
+    stream.consume_tp(&segment(0, true, &[1; 32])).unwrap();
+    stream.consume_tp(&segment(16, false, &[2; 32])).unwrap();
+    let report = stream.try_finalize().unwrap();
+    assert_eq!(report.payload(), [[1; 16], [2; 16], [2; 16]].concat());
+}
+
+#[test]
+fn a_gap_filler_is_taken_where_a_new_range_is_not() {
+    let mut buffer = vec![0; 16 + 65_520];
+    let mut stream = TpBuf::new(65_520, &mut buffer).unwrap();
+    for place in 0..32 {
+        stream
+            .consume_tp(&segment(32 * place, true, &[0; 16]))
+            .unwrap();
+    }
+    let kept = *stream.stream();
+    assert_eq!(
+        stream.consume_tp(&segment(1024, true, &[0; 16])),
+        Err(Refusal::RangesFull)
+    );
+    assert_eq!(*stream.stream(), kept);
+    stream.consume_tp(&segment(16, true, &[0; 16])).unwrap();
+    assert_eq!(stream.stream().ranges().count(), 31);
+    stream.consume_tp(&segment(1024, true, &[0; 16])).unwrap();
+    assert_eq!(stream.stream().ranges().count(), 32);
+}
+
+#[test]
+fn a_refusal_changes_nothing() {
+    let mut buffer = [0xee; 48];
+    let mut stream = TpStream::new(64).unwrap();
+    stream
+        .consume_tp(&segment(16, false, &[1; 16]), &mut buffer)
+        .unwrap();
+    let (words, bytes) = (*stream.words(), buffer);
+    for bad in [
+        hex("00"),
+        segment(64, false, &[2; 16]),
+        segment(0, true, &[2; 17]),
+        segment(0, false, &[2; 16]),
+        segment(32, true, &[2; 16]),
+    ] {
+        assert!(stream.consume_tp(&bad, &mut buffer).is_err());
+        assert_eq!((*stream.words(), buffer), (words, bytes));
+    }
+    let too_short = stream.consume_tp(&segment(0, true, &[2; 16]), &mut buffer[..31]);
+    assert_eq!(too_short, Err(Refusal::BufferTooShort(32)));
+    assert_eq!((*stream.words(), buffer), (words, bytes));
+}
+
+#[test]
+fn a_stream_kept_apart_from_its_buffer() {
+    let mut buffer = vec![0; 16 + 64];
+    let mut stream = TpStream::new(64).unwrap();
+    stream
+        .consume_tp(&segment(0, true, &[1; 16]), &mut buffer)
+        .unwrap();
+    let mut whole = TpBuf::resume(TpStream::from_words(*stream.words()), &mut buffer);
+    whole.consume_tp(&segment(16, false, &[2; 8])).unwrap();
+    let stream = *whole.stream();
+    assert!(stream.is_complete());
+    // Another buffer may be too short for the report.
+    assert_eq!(stream.take(&mut [0; 39]), Err(Refusal::BufferTooShort(40)));
+    assert_eq!(stream.take(&mut buffer).unwrap().payload().len(), 24);
+}
+
+#[test]
+fn malformed_states_are_refused_everywhere() {
+    let state = |limit, count, has_end, end, ranges: &[u32]| {
+        let mut words = [0; 68];
+        words[..4].copy_from_slice(&[limit, count, has_end, end]);
+        words[4..4 + ranges.len()].copy_from_slice(ranges);
+        words
+    };
+    let good = state(64, 2, 1, 64, &[0, 16, 32, 48]);
+    let bad = [
+        state(65_521, 0, 0, 0, &[]),
+        state(64, 33, 0, 0, &[]),
+        state(64, u32::MAX, 0, 0, &[]),
+        state(64, 1, 0, 0, &[32, 16]),
+        state(64, 1, 0, 0, &[0, 80]),
+        state(64, 2, 0, 0, &[0, 16, 16, 32]),
+        state(64, 1, 1, 65, &[0, 64]),
+        state(64, 1, 2, 64, &[0, 64]),
+        [u32::MAX; 68],
+    ];
+    let mut buffer = [0; 80];
+    let next = segment(16, true, &[1; 16]);
+    assert!(TpStream::from_words(good)
+        .consume_tp(&next, &mut buffer)
+        .is_ok());
+    buffer.fill(0xee);
+    for words in bad {
+        let mut stream = TpStream::from_words(words);
+        assert_eq!(
+            stream.consume_tp(&next, &mut buffer),
+            Err(Refusal::MalformedState)
+        );
+        assert_eq!(
+            stream.consume_tp(&[], &mut buffer),
+            Err(Refusal::MalformedState)
+        );
+        assert_eq!(stream.take(&mut buffer), Err(Refusal::MalformedState));
+        assert!(!stream.is_complete());
+        assert!(stream.ranges().count() <= 32);
+        assert_eq!((*stream.words(), buffer), (words, [0xee; 80]));
+        stream.clear();
+        assert_eq!(*stream.words(), state(words[0], 0, 0, 0, &[]));
+    }
+}
+
+#[test]
+fn limits() {
+    assert_eq!(TpStream::new(65_520).unwrap().limit(), 65_520);
+    assert_eq!(
+        TpStream::new(u32::MAX),
+        Err(Refusal::LimitTooLarge(u32::MAX))
+    );
+    assert!(TpBuf::new(0, &mut []).is_ok());
+}
