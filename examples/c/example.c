@@ -1,0 +1,88 @@
+/* Reads a service discovery payload, then a refused one, and joins two segments of a message. Compiled and run by examples/c/run. */
+#include "viaductle.h"
+
+#include <inttypes.h>
+#include <stdio.h>
+
+/* An offer of service 0x1234 whose first run holds one IPv4 endpoint. */
+static const uint8_t payload[] = {
+    0x80, 0x00, 0x00, 0x00, 0x00, 0x00, 0x00, 0x10,                                                 /* flags, entries length */
+    0x01, 0x00, 0x00, 0x10, 0x12, 0x34, 0x56, 0x78, 0x01, 0x00, 0x0e, 0x10, 0x01, 0x00, 0x00, 0x00, /* the entry */
+    0x00, 0x00, 0x00, 0x0c,                                                                         /* options length */
+    0x00, 0x09, 0x04, 0x00, 0xc0, 0xa8, 0x01, 0x01, 0x00, 0x06, 0x1f, 0x90,                         /* the option */
+};
+
+static void show_refusal(const char *what, viaductle_answer a) {
+    printf("%s: refused, %" PRIu64 " (%" PRIu64 ", %" PRIu64 ", %" PRIu64 ", %" PRIu64 ")\n", what, a.number, a.value0, a.value1, a.value2, a.value3);
+}
+
+static void show_option(const uint8_t *options, size_t len, viaductle_answer found) {
+    viaductle_option option = viaductle_read_option(options + found.value1, len - found.value1);
+    printf("    option of type 0x%02" PRIx64 ":", option.type);
+    for (uint64_t i = 0; i < option.address_len; i++)
+        printf("%s%u", i == 0 ? " " : ".", (unsigned)options[found.value1 + option.address_at + i]);
+    printf(", protocol 0x%02" PRIx64 ", port %" PRIu64 "\n", option.protocol, option.port);
+}
+
+static void show_payload(const uint8_t *bytes, size_t len) {
+    uint16_t table[VIADUCTLE_SLOTS];
+    viaductle_answer read = viaductle_read(bytes, len, table, VIADUCTLE_SLOTS, false);
+    if (read.number != VIADUCTLE_ACCEPTED) {
+        show_refusal("payload", read);
+        return;
+    }
+    printf("payload: flags 0x%02" PRIx64 ", %" PRIu64 " entries, %" PRIu64 " options\n", read.value0, read.value1, read.value2);
+    viaductle_answer parts = viaductle_parts(bytes, len);
+    const uint8_t *entries = bytes + parts.value0, *options = bytes + parts.value2;
+    for (size_t at = 0;; at += 16) {
+        viaductle_entry entry = viaductle_next_entry(entries, parts.value1, at);
+        if (entry.number != VIADUCTLE_ACCEPTED) /* 20: the end */
+            break;
+        printf("  entry of type 0x%02" PRIx64 ": service 0x%04" PRIx64 ", TTL %" PRIu64 "\n", entry.type, entry.service, entry.ttl);
+        for (size_t next = entry.start1, left = entry.count1; left > 0; next++, left--) {
+            viaductle_answer found =
+                viaductle_next_of_run(options, parts.value3, table, VIADUCTLE_SLOTS, read.value2, next, left);
+            if (found.number != VIADUCTLE_ACCEPTED)
+                break;
+            show_option(options, parts.value3, found);
+        }
+    }
+}
+
+/* A segment of 16 payload bytes at `offset`, each of them `fill`. */
+static void make_segment(uint8_t segment[36], uint32_t offset, bool more, uint8_t fill) {
+    static const uint8_t header[16] = {0x12, 0x34, 0x80, 0x01, 0, 0, 0, 28, 0, 0, 0, 1, 1, 1, 0x22, 0};
+    uint32_t tp = offset | (more ? 1 : 0);
+    for (size_t i = 0; i < 16; i++)
+        segment[i] = header[i];
+    for (size_t i = 0; i < 4; i++)
+        segment[16 + i] = (uint8_t)(tp >> (24 - 8 * i));
+    for (size_t i = 20; i < 36; i++)
+        segment[i] = fill;
+}
+
+static void join_segments(void) {
+    static uint8_t buffer[VIADUCTLE_BUFFER_LEN(1024)];
+    uint32_t state[VIADUCTLE_WORDS];
+    uint8_t segment[36];
+    viaductle_begin(state, VIADUCTLE_WORDS, 1024);
+    for (uint32_t offset = 16;; offset -= 16) { /* the last one comes first */
+        make_segment(segment, offset, offset == 0, offset == 0 ? 'a' : 'b');
+        viaductle_answer taken = viaductle_take(state, VIADUCTLE_WORDS, buffer, sizeof buffer);
+        show_refusal("message", taken); /* 37: not complete */
+        viaductle_answer joined = viaductle_consume(state, VIADUCTLE_WORDS, segment, sizeof segment, buffer, sizeof buffer);
+        if (joined.number != VIADUCTLE_ACCEPTED)
+            show_refusal("segment", joined);
+        if (offset == 0)
+            break;
+    }
+    viaductle_answer taken = viaductle_take(state, VIADUCTLE_WORDS, buffer, sizeof buffer);
+    printf("message: %" PRIu64 " bytes, type 0x%02x, length field %u, payload %.32s\n", taken.value0, buffer[14], buffer[7], (const char *)buffer + 16);
+}
+
+int main(void) {
+    show_payload(payload, sizeof payload);
+    show_payload(payload, sizeof payload - 1);
+    join_segments();
+    return 0;
+}

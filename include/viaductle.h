@@ -1,0 +1,197 @@
+/* Viaductle: SOME/IP service discovery payloads read, SOME/IP-TP segments joined. Every function here is proved to give the answer that its
+ * rule says, for every input. What is proved is stated in crates/hub/specs; the rules' numbers and values are in docs/.
+ *
+ * Link target/staticlib/libhub.a, which `rt staticlib hub` writes (x86-64, System V). Nothing else is needed: no heap, no C library, no
+ * threads, no global state. examples/c has a program, and `examples/c/run` compiles and runs it.
+ *
+ * What a caller must see to, since C cannot say it:
+ *   - A pointer and a length are one array that is there, the length in elements. The pointer is aligned and never null, also where the
+ *     length is 0 (any array's address will do).
+ *   - An array that is written (`table`, `state`, `buffer`) shares no byte with another argument.
+ *   - A `bool` holds 0 or 1.
+ * Nothing else is asked: any bytes, any table, any count, any state gets an answer, and no call reads or writes outside what it was lent. */
+#ifndef VIADUCTLE_H
+#define VIADUCTLE_H
+
+#include <stdbool.h>
+#include <stddef.h>
+#include <stdint.h>
+
+#ifdef __cplusplus
+extern "C" {
+#endif
+
+/* ---- answers */
+
+/* 0 for accepted, or the number of the first refusal; and the values that come with it, in order. Places that are not used hold 0. */
+typedef struct {
+    uint64_t number;
+    uint64_t value0, value1, value2, value3;
+} viaductle_answer;
+
+/* The numbers, each with its values. */
+enum viaductle_number {
+    VIADUCTLE_ACCEPTED = 0,
+    VIADUCTLE_UNEXPECTED_END_OF_SLICE = 1,   /* length needed */
+    VIADUCTLE_ENTRIES_LENGTH_TOO_LARGE = 2,  /* length */
+    VIADUCTLE_ENTRIES_LENGTH_UNEVEN = 3,     /* length: not a multiple of 16 */
+    VIADUCTLE_OPTIONS_LENGTH_TOO_LARGE = 4,  /* length: above 1,388 */
+    VIADUCTLE_PAYLOAD_TOO_LARGE = 5,         /* length: above 1,400 */
+    VIADUCTLE_PAYLOAD_LENGTH_MISMATCH = 6,   /* expected, actual */
+    VIADUCTLE_OPTION_LENGTH = 7,             /* needed, had, source: 0 the slice, 1 the option's length */
+    VIADUCTLE_OPTION_LENGTH_ZERO = 8,        /* none */
+    VIADUCTLE_CONFIGURATION_STRING = 9,      /* which error (below), its numbers */
+    VIADUCTLE_UNKNOWN_OPTION = 10,           /* type: unknown, and not to be discarded */
+    VIADUCTLE_UNKNOWN_ENTRY = 11,            /* type */
+    VIADUCTLE_RUN_OUT_OF_BOUNDS = 12,        /* run (1 or 2), start, count, options */
+    VIADUCTLE_INDEX_TOO_LARGE = 13,          /* length: above 1,388 */
+    VIADUCTLE_MESSAGE_ID = 14,               /* message id: not 0xFFFF8100 */
+    VIADUCTLE_CLIENT_ID = 15,                /* client: not 0 */
+    VIADUCTLE_SESSION_ZERO = 16,             /* none */
+    VIADUCTLE_INTERFACE_VERSION = 17,        /* version: not 1 */
+    VIADUCTLE_MESSAGE_TYPE = 18,             /* type: not 0x02 */
+    VIADUCTLE_RETURN_CODE = 19,              /* code: not 0 */
+    VIADUCTLE_NOTHING_THERE = 20,            /* none: no option or entry at this place */
+    VIADUCTLE_TABLE_MISFIT = 21,             /* none: the table does not fit these bytes */
+    VIADUCTLE_FEW_SLOTS = 22,                /* slots: fewer than 347 were lent */
+    VIADUCTLE_NOT_A_SEGMENT = 30,            /* none */
+    VIADUCTLE_SEGMENT_TOO_BIG = 31,          /* offset, length, limit */
+    VIADUCTLE_UNALIGNED = 32,                /* offset, length: more follows, and the length is not a multiple of 16 */
+    VIADUCTLE_CONFLICTING_END = 33,          /* previous end, new end */
+    VIADUCTLE_BUFFER_TOO_SHORT = 34,         /* length needed */
+    VIADUCTLE_RANGES_FULL = 35,              /* none: more than 32 ranges after joining */
+    VIADUCTLE_LIMIT_TOO_LARGE = 36,          /* limit: above 65,520 */
+    VIADUCTLE_NOT_COMPLETE = 37,             /* none */
+    VIADUCTLE_MALFORMED_STATE = 38           /* none */
+};
+
+/* 9's first value, and the numbers behind it. `item` is where the item's length byte stands in the string. */
+enum viaductle_string_error {
+    VIADUCTLE_MISSING_TERMINATOR = 1,               /* none */
+    VIADUCTLE_ITEM_LENGTH_EXCEEDS_REMAINING = 2,    /* item, item length, bytes remaining */
+    VIADUCTLE_TRAILING_DATA_AFTER_TERMINATOR = 3,   /* where the terminator stands */
+    VIADUCTLE_EMPTY_KEY = 4,                        /* item */
+    VIADUCTLE_INVALID_KEY_BYTE = 5,                 /* item, place of the byte in the item, its value */
+    VIADUCTLE_KEY_CONTAINS_ONLY_WHITESPACE = 6      /* item */
+};
+
+/* ---- service discovery: whole payloads */
+
+/* Slots of the table that reading fills with the options' byte offsets. */
+#define VIADUCTLE_SLOTS 347
+
+/* A whole payload.
+ *   0: value0 = the three flags of byte 0 as sent (0x80 reboot, 0x40 unicast, 0x20 explicit initial data control), value1 = how many
+ *      entries, value2 = how many options.
+ *   22, 1 to 6, then the options from the front (7, 8, 9), then 10, then the entries from the front (11, 12). The first refusal counts.
+ * `discard`: unknown options are accepted although they may not be discarded, so 10 is not given.
+ * The table: after 0, slots 0 to value2 - 1 hold the offsets and the rest of the 347 hold 0; after a refusal all 347 hold 0; after 22
+ * nothing has changed. Slots past 347 are never touched. */
+viaductle_answer viaductle_read(const uint8_t *payload, size_t len, uint16_t *table, size_t slots, bool discard);
+
+/* A message with its SOME/IP header of 16 bytes: 22, 1 with 16, 14 to 19, and then all later bytes as `viaductle_read` does. The length
+ * field and the protocol version are not judged. */
+viaductle_answer viaductle_read_message(const uint8_t *message, size_t len, uint16_t *table, size_t slots, bool discard);
+
+/* Where the parts of a payload are. Only its sizes are judged: 1 to 6.
+ *   0: value0 = where the entries part starts (8), value1 = its length, value2 = where the options part starts, value3 = its length.
+ * The functions below take these parts: `payload + value0, value1` and `payload + value2, value3`. */
+viaductle_answer viaductle_parts(const uint8_t *payload, size_t len);
+
+/* ---- service discovery: the options part */
+
+/* The offsets of all options of an options part, unknown ones whether they may be discarded or not.
+ *   0: value0 = how many options.
+ *   22, 13, then the options from the front (7, 8, 9). The table is left as by `viaductle_read`. */
+viaductle_answer viaductle_index(const uint8_t *options, size_t len, uint16_t *table, size_t slots);
+
+/* The option of number `ordinal`, from 0, among `count`, by a table. Its configuration string is not scanned again, and nothing is written.
+ *   0: value0 = its type, value1 = where it starts in the options part, value2 = how many bytes it takes (3 more than its length field).
+ *      The bytes after its type are value1 + 3 up to value1 + value2; `viaductle_read_option` of `options + value1` gives its fields.
+ *   20 at or past `count`; 21 past the table's 347 slots or those that were lent, or where no option stands at the slot's offset. */
+viaductle_answer viaductle_lookup(const uint8_t *options, size_t len, const uint16_t *table, size_t slots, size_t count, size_t ordinal);
+
+/* The option that starts at byte `at` of the options part, its string scanned. To go through all: begin at 0, and go on at value1 + value2.
+ *   0: as `viaductle_lookup`. 20 with no bytes left, otherwise 7, 8, 9. */
+viaductle_answer viaductle_next_option(const uint8_t *options, size_t len, size_t at);
+
+/* The next option of a run, of which `left` are left, the next of number `next`. To go through a run of an entry: begin with its start and
+ * count, and go on at `next + 1` with `left - 1`.
+ *   0: as `viaductle_lookup`. 20 where `left` is 0, otherwise as `viaductle_lookup`. */
+viaductle_answer viaductle_next_of_run(const uint8_t *options, size_t len, const uint16_t *table, size_t slots, size_t count, size_t next, size_t left);
+
+/* A configuration string alone: 0, or 9. */
+viaductle_answer viaductle_string(const uint8_t *string, size_t len);
+
+/* One option with its fields: those that its kind has not hold 0, and so do all after a refusal. */
+typedef struct {
+    uint64_t number, value0, value1, value2, value3; /* as in viaductle_answer; after 0 the values hold 0 */
+    uint64_t type;
+    uint64_t size;                                   /* bytes that it takes */
+    uint64_t discardable;                            /* 1 or 0 */
+    uint64_t priority, weight;                       /* load balancing (0x02) */
+    uint64_t address_at, address_len;                /* endpoints and multicast: the address is bytes address_at up to + address_len */
+    uint64_t protocol, port;                         /*   of the option, 4 (0x04, 0x14, 0x24) or 16 (0x06, 0x16, 0x26) of them */
+    uint64_t string_at, string_len;                  /* configuration (0x01): the string */
+} viaductle_option;
+
+/* The option in front of these bytes, its string scanned; later bytes are not read. 7, 8, 9. */
+viaductle_option viaductle_read_option(const uint8_t *option, size_t len);
+
+/* ---- service discovery: the entries part */
+
+/* One entry with its fields: those that its kind has not hold 0, and so do all after a refusal. */
+typedef struct {
+    uint64_t number, value0, value1, value2, value3; /* as in viaductle_answer; after 0 the values hold 0 */
+    uint64_t type;                                   /* 0x00 find, 0x01 offer, 0x06 subscribe, 0x07 subscribe ack */
+    uint64_t start1, start2, count1, count2;         /* the two runs of options */
+    uint64_t service, instance, major, ttl;
+    uint64_t minor;                                  /* 0x00 and 0x01 */
+    uint64_t initial_data, counter, eventgroup;      /* 0x06 and 0x07: a bit, four bits, the id */
+    uint64_t reserved, spare;                        /*   byte 12 and three bits, as sent */
+} viaductle_entry;
+
+/* One entry alone; later bytes are not read. 1 with 16 below 16 bytes, then 11. */
+viaductle_entry viaductle_read_entry(const uint8_t *entry, size_t len);
+
+/* The entry that starts at byte `at` of the entries part. To go through all: begin at 0, and go on at `at + 16`.
+ * 20 with no bytes left, otherwise 1 with 16, then 11. */
+viaductle_entry viaductle_next_entry(const uint8_t *entries, size_t len, size_t at);
+
+/* ---- TP: segments of one message joined in a buffer */
+
+/* The state of a stream is an array of this many words that the caller keeps: the limit, how many ranges are held, whether an end is known
+ * (0 or 1), the end, and 32 pairs of start and end, of which as many count as ranges are held. It can be copied, stored and sent; any words
+ * get an answer. Words past these are never touched. */
+#define VIADUCTLE_WORDS 68
+
+/* The highest payload limit, and a buffer's bytes that are enough for any segment under a limit. */
+#define VIADUCTLE_MAX_LIMIT 65520
+#define VIADUCTLE_BUFFER_LEN(limit) (16 + (size_t)(limit))
+
+/* A stream begins; all 68 words are written.
+ *   0. 38 with fewer words than 68, and nothing is written; 36, and the state then has limit 0 and holds nothing. */
+viaductle_answer viaductle_begin(uint32_t *state, size_t words, uint32_t limit);
+
+/* One segment comes: 16 header bytes, 4 TP bytes and its payload, as on the wire.
+ *   0: its range is joined, and its bytes stand in the buffer, the message's header at 0 and its payload from 16 on.
+ *   38, 30, 31, 32, 33, 34, 35; then state and buffer are as they were. */
+viaductle_answer viaductle_consume(uint32_t *state, size_t words, const uint8_t *segment, size_t len, uint8_t *buffer, size_t room);
+
+/* Whether all segments are there. 0: value0 = 1 or 0. A malformed state, and one of fewer words, is not complete. */
+viaductle_answer viaductle_complete(const uint32_t *state, size_t words);
+
+/* The whole message. The state stays.
+ *   0: value0 = its length; it is the first value0 bytes of the buffer, its length field written.
+ *   38, 37, 34; then the buffer is as it was. */
+viaductle_answer viaductle_take(const uint32_t *state, size_t words, uint8_t *buffer, size_t room);
+
+/* Ranges and end are forgotten, whatever the state was, and the limit is kept; no byte of the buffer is touched.
+ *   0. 38 with fewer words than 68, and nothing is written. */
+viaductle_answer viaductle_clear(uint32_t *state, size_t words);
+
+#ifdef __cplusplus
+}
+#endif
+
+#endif
