@@ -1,7 +1,6 @@
 // One entry of 16 bytes: read from the front of some bytes, judged beside a number of options, and handed out by a cursor. The names are
 // the Rust crate's; what the two kinds of entries share stands once, in `EntryHead`.
 mod cursor;
-mod number;
 mod runs;
 
 pub use cursor::EntryCursor;
@@ -80,10 +79,10 @@ fn head_of(s: &[u8]) -> EntryHead
         start_index_options_2: s[2],
         number_of_options_1: counts / 16,
         number_of_options_2: counts % 16,
-        service_id: number::be16(s[4], s[5]),
-        instance_id: number::be16(s[6], s[7]),
+        service_id: big_endian::be16(s[4], s[5]),
+        instance_id: big_endian::be16(s[6], s[7]),
         major_version: s[8],
-        ttl: number::be24(s[9], s[10], s[11]),
+        ttl: big_endian::be24(s[9], s[10], s[11]),
     }
 }
 
@@ -98,7 +97,7 @@ fn group_of(s: &[u8]) -> EventGroup
         initial_data_requested: bits / 0x80 % 2 == 1,
         spare: bits / 16 % 8,
         counter: bits % 16,
-        eventgroup_id: number::be16(s[14], s[15]),
+        eventgroup_id: big_endian::be16(s[14], s[15]),
     }
 }
 
@@ -108,7 +107,7 @@ fn service_entry(code: u8, s: &[u8]) -> SdEntry
     ensures { λ r. ⌜ accepted (saidEntry r) ≡ «by-type» code (now (s .entry)) ⌝ }
 {
     let head = head_of(s);
-    let minor_version = number::be32(s[12], s[13], s[14], s[15]);
+    let minor_version = big_endian::be32(s[12], s[13], s[14], s[15]);
     if code == 0x00 {
         return SdEntry::Service {
             entry_type: SdServiceEntryType::FindService,

@@ -20,11 +20,10 @@ use Rattle.refusal.specs.declared.Refusal.the-variants.{FewSlots}
 use Rattle.refusal.specs.Said.{said}
 use Rattle.sd_index.specs.declared.reading.IndexAnswer.{IndexAnswer}
 use Rattle.sd_index.specs.declared.reading.IndexAnswer.the-variants.{Good, Refused}
-use Rattle.sd_option.specs.declared.reading.PermitAnswer.{PermitAnswer}
-use Rattle.sd_option.specs.Permits.{permit-said}
+use Rattle.sd_index.specs.declared.permission.Permission.{Permission}
 use Rattle.sd_index.specs.declared.reading.Swept.{Swept}
 use Rattle.sd_index.specs.declared.reading.Swept.the-variants as run
-use Rattle.sd_index.specs.Said.{index-said}
+use Rattle.sd_index.specs.Said.{index-said, permission-said}
 use Rattle.sd_index.specs.Indexed.{Sweeps, Indexed, indexed}
 use Rattle.sd_index.proofs.SlotLaws.{zeroed}
 use Rattle.sd_index.proofs.Turns.{past-front}
@@ -74,9 +73,14 @@ module _ (g : Settings) (s : List ℕ) where
   indexed-long h = rw (lt-ltb 1388 (length s) h)
 
   module _ (short : length s ≤ 1388) where
+    -- within a payload the length is never too large
+    pub indexed-is : indexed g s ≡ read-options g s
+    unfolding indexed refuse_when_else_
+    indexed-is = rw (le-ltb 1388 (length s) short)
+
     indexed-short : indexed g s ≡ (all-options s >>= λ fs. each (permit g) fs >> accepted fs)
-    unfolding indexed read-options refuse_when_else_
-    indexed-short = rw (le-ltb 1388 (length s) short)
+    unfolding read-options
+    indexed-short = indexed-is
 
     pub indexed-refused : (r : paper.Refusal) → all-options s ≡ refused r → indexed g s ≡ refused r
     unfolding _>>=_
@@ -101,12 +105,12 @@ module _ (g : Settings) (s tab tab′ : List ℕ) (w : Swept) (h : Sweeps g s ta
   pub swept-refused : (q : Refusal) → w ≡ run.Refused q → (all-options s ≡ refused (said q)) × (length tab′ ≡ length tab) × (drop 347 tab′ ≡ drop 347 tab)
   swept-refused q e = subst (Sweeps g s tab tab′) e h
 
-  pub swept-done : (n : ℕ) (p : PermitAnswer) → w ≡ run.Done n p
-      → (fs : List Frame) × (all-options s ≡ accepted fs) × (length fs ≡ n) × (permit-said p ≡ each (permit g) fs) × (tab′ ≡ starts size 0 fs ++ drop n tab)
+  pub swept-done : (n : ℕ) (p : Permission) → w ≡ run.Done n p
+      → (fs : List Frame) × (all-options s ≡ accepted fs) × (length fs ≡ n) × (permission-said p ≡ each (permit g) fs) × (tab′ ≡ starts size 0 fs ++ drop n tab)
   swept-done n p e = subst (Sweeps g s tab tab′) e h
 
   -- the later slots are as they were
-  pub done-past : length s ≤ 1388 → (n : ℕ) (p : PermitAnswer) (e : w ≡ run.Done n p) → (n ≤ 347) × (drop 347 tab′ ≡ drop 347 tab)
+  pub done-past : length s ≤ 1388 → (n : ℕ) (p : Permission) (e : w ≡ run.Done n p) → (n ≤ 347) × (drop 347 tab′ ≡ drop 347 tab)
   done-past short n p e =
       let (fs, read, count, permits, table) = swept-done n p e in
       let few : n ≤ 347 = omega (arith, few-options s fs read) in

@@ -1,3 +1,4 @@
+pub mod PermissionLaws
 pub mod SlotLaws
 pub mod Turns
 pub mod IndexLaws

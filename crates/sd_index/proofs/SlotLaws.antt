@@ -7,7 +7,9 @@ use native.Mathlib.Numerals.{add-one}
 use native.Mathlib.Omega.{arith}
 use lib.ListN.{length, take, drop, getD, set, length-append, length-drop, length-take, take-append-drop, replicate, length-replicate, replicate-append-replicate}
 use lib.Seq.{drop-cons, set-at, length-take-le}
-use Rattle.sd_format.specs.Frames.{zeros}
+use borrow.Author.Tests.{lt-ltb, le-ltb}
+use Rattle.sd_format.specs.Frames.{slots, zeros}
+use Rattle.sd_index.specs.Indexed.{cleared}
 
 pub length-zeros : (n : ℕ) → length (zeros n) ≡ n
 unfolding zeros
@@ -41,3 +43,13 @@ zeroed-more tab l from i h k e =
     ∙ set-at front (getD tab i 0) (drop (suc i) tab) 0 i len
     ∙ tidy (take from tab) (i - from) (drop (suc i) tab)
     ∙ ap₂ {C = List ℕ} (λ n m. take from tab ++ (zeros n ++ drop m tab)) next (sym (add-one i))
+
+-- ---- a table after a refusal
+
+pub cleared-short : (tab : List ℕ) → length tab < 347 → tab ≡ cleared tab
+unfolding cleared slots
+cleared-short tab h = rw (lt-ltb (length tab) 347 h)
+
+pub cleared-long : (tab : List ℕ) → 347 ≤ length tab → zeroed tab 0 347 ≡ cleared tab
+unfolding cleared slots
+cleared-long tab h = rw (le-ltb (length tab) 347 h)

@@ -1,3 +1,4 @@
+pub mod Permission
 pub mod Said
 pub mod Indexed
 pub mod Found

@@ -17,6 +17,7 @@ pub use lookup::option_at;
 pub use reading::IndexAnswer;
 pub use reading::read_index;
 pub use reading::read_options;
+pub use slots::clear_slots;
 
 // As many slots as options can be: 1,388 bytes of options of four bytes.
 pub const SLOTS: usize = 347;

@@ -2,21 +2,20 @@
 use crate::MAX_OPTIONS_LEN;
 use crate::SLOTS;
 use crate::Settings;
+use crate::permission::Permission;
 use crate::permission::first;
+use crate::permission::permission_of;
 use crate::slots::zero_from;
 use refusal::Refusal;
 use sd_option::Offset;
 use sd_option::reading::OptionAnswer;
-use sd_option::reading::PermitAnswer;
-use sd_option::reading::permit;
+use sd_option::reading::option_refusal;
 use sd_option::reading::read_option;
 ghost use mathlib.Core.Path.{_≡_};
 ghost use Prim.Native.Nat.{_≤_};
 ghost use lib.ListN.{length};
 ghost use Rattle.sd_index.specs.Said.{settings-said, swept-refusal};
 ghost use Rattle.sd_index.specs.Indexed.{Sweeps, Indexed, indexed};
-ghost use Rattle.sd_option.specs.Permits.{discarding};
-ghost use Rattle.sd_option.specs.Reading.{option-refusal};
 ghost use Rattle.sd_format.specs.Frames.{read-index, table-after};
 
 pub enum IndexAnswer {
@@ -29,7 +28,7 @@ pub enum IndexAnswer {
 pub enum Swept {
     Done {
         count: usize,
-        permission: PermitAnswer,
+        permission: Permission,
     },
     Refused(Refusal),
 }
@@ -42,31 +41,21 @@ fn slot_of(offset: Offset) -> u16
     offset.0 as u16
 }
 
-// Why an option was refused.
-fn refusal_of(answer: OptionAnswer) -> Refusal
-    ensures { λ r. ⌜ r ≡ option-refusal answer ⌝ }
-{
-    match answer {
-        OptionAnswer::Good(_) => Refusal::NothingThere,
-        OptionAnswer::Refused(refusal) => refusal,
-    }
-}
-
 // One pass over the options: the place of each into the table, from its first slot on.
-fn sweep(discard: bool, options: &[u8], table: &mut [u16]) -> Swept
+fn sweep(settings: Settings, options: &[u8], table: &mut [u16]) -> Swept
     requires { ⌜ (347 ≤ length (now table)) × (length (now options) ≤ 1388) ⌝ }
-    ensures { λ r. ⌜ Sweeps (discarding discard) (now (options .entry)) (now (table .entry)) (now (table .exit)) r ⌝ }
+    ensures { λ r. ⌜ Sweeps (settings-said settings) (now (options .entry)) (now (table .entry)) (now (table .exit)) r ⌝ }
 {
     let mut at: usize = 0;
     let mut count: usize = 0;
-    let mut permission = PermitAnswer::Good;
+    let mut permission = Permission::Passed;
     while at < options.len() {
         let answer = read_option(&options[at..]);
         let OptionAnswer::Good(head) = answer else {
-            return Swept::Refused(refusal_of(answer));
+            return Swept::Refused(option_refusal(answer));
         };
         table[count] = slot_of(Offset(at));
-        permission = first(permission, permit(discard, head));
+        permission = first(permission, permission_of(settings, head));
         count += 1;
         at += head.size;
     }
@@ -98,14 +87,14 @@ pub fn read_options(settings: Settings, options: &[u8], table: &mut [u16]) -> In
         zero_from(table, 0);
         return IndexAnswer::Refused(Refusal::IndexTooLarge(options.len()));
     }
-    let all = sweep(settings.discard_unknown_option, options, table);
+    let all = sweep(settings, options, table);
     let Swept::Done { count, permission } = all else {
         zero_from(table, 0);
         return IndexAnswer::Refused(swept_refusal(all));
     };
-    if let PermitAnswer::Refused(refusal) = permission {
+    if let Permission::Refused(option_type) = permission {
         zero_from(table, 0);
-        return IndexAnswer::Refused(refusal);
+        return IndexAnswer::Refused(Refusal::UnknownOption(option_type));
     }
     zero_from(table, count);
     IndexAnswer::Good(count)

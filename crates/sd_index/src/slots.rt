@@ -5,6 +5,7 @@ ghost use Prim.Native.Nat.{_-_, _≤_};
 ghost use mathlib.Core.List.{_++_};
 ghost use lib.ListN.{length, take, drop};
 ghost use Rattle.sd_format.specs.Frames.{zeros};
+ghost use Rattle.sd_index.specs.Indexed.{cleared};
 
 // Zeros in the slots from `from` to 346.
 pub(crate) fn zero_from(table: &mut [u16], from: usize)
@@ -16,4 +17,14 @@ pub(crate) fn zero_from(table: &mut [u16], from: usize)
         table[i] = 0;
         i += 1;
     }
+}
+
+// Zeros in the 347 slots of a lent table, as after a refusal; a table with fewer stays as it is.
+pub fn clear_slots(table: &mut [u16])
+    ensures { λ _. ⌜ now (table .exit) ≡ cleared (now (table .entry)) ⌝ }
+{
+    if table.len() < SLOTS {
+        return;
+    }
+    zero_from(table, 0);
 }

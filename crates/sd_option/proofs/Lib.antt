@@ -1,5 +1,7 @@
 pub mod KindLaws
 pub mod ReadingLaws
+pub mod AskedLaws
+pub mod AddressLaws
 pub mod FieldLaws
-pub mod PermitLaws
+pub mod PartLaws
 pub mod OneAnswer

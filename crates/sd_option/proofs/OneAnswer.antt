@@ -1,22 +1,19 @@
 -- Any two answers that one promise of this crate allows are the same one. (A part is promised byte by byte, so there is nothing to show of it.)
 -- Assumes nothing.
 use Prim.Native.Nat.{ℕ}
-use mathlib.Core.Path.{_≡_, refl, sym, ap, _∙_}
+use mathlib.Core.Path.{_≡_, sym, ap, _∙_}
 use mathlib.Core.Bool.{Bool}
-use native.Mathlib.Omega.{arith}
 use Rattle.numbers.specs.Refusals.{Refusal}
-use Rattle.numbers.specs.Answers.{Answer, accepted, refused, Verdict}
+use Rattle.numbers.specs.Answers.{Answer, refused}
 use Rattle.numbers.proofs.AnswerLaws.{accepted-inj, not-refused}
 use Rattle.refusal.specs.declared.Refusal as code
 use Rattle.refusal.specs.Said.{said}
 use Rattle.refusal.proofs.OneToOne.{one-to-one}
-use Rattle.sd_format.specs.Kinds.{Row, row-of}
+use Rattle.sd_format.specs.Kinds.{row-of}
 use Rattle.sd_option.specs.declared.kinds.OptionKind.{OptionKind}
 use Rattle.sd_option.specs.declared.reading.OptionHead.{OptionHead}
 use Rattle.sd_option.specs.declared.reading.OptionAnswer.{OptionAnswer}
 use Rattle.sd_option.specs.declared.reading.OptionAnswer.the-variants as option
-use Rattle.sd_option.specs.declared.reading.PermitAnswer.{PermitAnswer}
-use Rattle.sd_option.specs.declared.reading.PermitAnswer.the-variants as permit
 use Rattle.sd_option.specs.declared.fields.ByteAnswer.{ByteAnswer}
 use Rattle.sd_option.specs.declared.fields.ByteAnswer.the-variants as byte
 use Rattle.sd_option.specs.declared.fields.WordAnswer.{WordAnswer}
@@ -25,7 +22,6 @@ use Rattle.sd_option.specs.declared.fields.SizeAnswer.{SizeAnswer}
 use Rattle.sd_option.specs.declared.fields.SizeAnswer.the-variants as size
 use Rattle.sd_option.specs.Kinds.{row-said}
 use Rattle.sd_option.specs.Reading.{Head, head-said, option-said}
-use Rattle.sd_option.specs.Permits.{permit-said}
 use Rattle.sd_option.specs.Fields.{byte-said, word-said, size-said}
 use Rattle.sd_option.proofs.KindLaws.{kind-pinned}
 
@@ -47,12 +43,6 @@ option-one (option.Good h) (option.Good k) e = ap option.Good (head-one h k (acc
 option-one (option.Good h) (option.Refused r) e = not-refused (said r) (head-said h) (sym e)
 option-one (option.Refused q) (option.Good k) e = not-refused (said q) (head-said k) e
 option-one (option.Refused q) (option.Refused r) e = ap option.Refused (refused-inj q r e)
-
-permit-one : (x y : PermitAnswer) → permit-said x ≡ permit-said y → x ≡ y
-permit-one permit.Good permit.Good e = refl
-permit-one permit.Good (permit.Refused r) e = not-refused (said r) tt (sym e)
-permit-one (permit.Refused q) permit.Good e = not-refused (said q) tt e
-permit-one (permit.Refused q) (permit.Refused r) e = ap permit.Refused (refused-inj q r e)
 
 byte-one : (x y : ByteAnswer) → byte-said x ≡ byte-said y → x ≡ y
 byte-one (byte.Good m) (byte.Good n) e = ap byte.Good (accepted-inj m n e)
@@ -81,10 +71,6 @@ one-kind t x y a b = kind-pinned x y (a ∙ sym b)
 -- `read_option`, `read_option_unscanned`
 pub one-option-answer : (told : Answer Head) (x y : OptionAnswer) → option-said x ≡ told → option-said y ≡ told → x ≡ y
 one-option-answer told x y a b = option-one x y (a ∙ sym b)
-
--- `permit`
-pub one-permit : (told : Verdict) (x y : PermitAnswer) → permit-said x ≡ told → permit-said y ≡ told → x ≡ y
-one-permit told x y a b = permit-one x y (a ∙ sym b)
 
 -- `protocol`, `unknown_type`
 pub one-byte : (told : Answer ℕ) (x y : ByteAnswer) → byte-said x ≡ told → byte-said y ≡ told → x ≡ y

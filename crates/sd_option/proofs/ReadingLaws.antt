@@ -1,22 +1,22 @@
 -- The reading of one option, test by test: what each refusal and what the acceptance says of the definitions. Assumes nothing.
 use mathlib.Core.Path.{_≡_, refl, sym, ap, _∙_, subst}
 use mathlib.Core.Logic.{_≢_}
-use mathlib.Core.Bool.{Bool, true, false, not, cond}
+use mathlib.Core.Bool.{Bool}
 use mathlib.Core.List.{List, [], _∷_}
 use Prim.Native.Nat.{ℕ, suc, _+_, _*_, _-_, _≤_, _<_}
 use native.Mathlib.Omega.{arith}
 use lib.ListN.{length, take, drop, getD, length-drop}
 use lib.Seq.{length-take-le, getD-take, getD-drop, drop-drop, take-nil}
-use lib.Dec.{ltb, eqb}
-use borrow.Author.Tests.{lt-ltb, le-ltb, eq-eqb, ne-eqb, ltb-false, eqb-false}
+use borrow.Author.Tests.{lt-ltb, le-ltb, eq-eqb, ne-eqb}
 use Rattle.numbers.specs.Refusals.{Refusal, option-length, option-length-zero}
 use Rattle.numbers.specs.Answers.{Answer, accepted, refused, Verdict, pass, _>>=_, _>>_, refuse_when_else_, given}
 use Rattle.numbers.specs.Bytes.{at16}
-use Rattle.numbers.proofs.AnswerLaws.{not-refused, accepted-inj, when-accepted, bind-accepted, then-accepted}
+use Rattle.numbers.proofs.AnswerLaws.{not-refused, accepted-inj, bind-accepted, then-accepted}
 use Rattle.sd_format.specs.Options.{has}
 use Rattle.sd_format.specs.Kinds.{Kind, configuration, load-balancing, address, unknown, Length, exactly, one-or-more, Row, row-of, kind-of, judge-length, judge-text, judge-kind, scanned, unscanned}
 use Rattle.sd_format.specs.Frames.{Frame, size, frame, one-option, read-option}
 use Rattle.sd_format.specs.Fields.{discardable}
+use Rattle.sd_format.proofs.FrameLaws.{frame-says}
 use Rattle.refusal.specs.declared.StringError.{StringError}
 use Rattle.refusal.specs.declared.Refusal as code
 use Rattle.config_string.specs.declared.StringAnswer.{StringAnswer}
@@ -84,23 +84,16 @@ module _ (s : List ℕ) (n : ℕ) (e : n ≡ getD s 0 0 * 256 + getD s 1 0) (h :
   frame-good p l = rw (framed p l, front-length s n l)
 
 -- what its acceptance says
-frame-tests : (s : List ℕ) (f : Frame) → frame s ≡ accepted f → Framed s (at16 s 0) × (f ≡ front s (at16 s 0))
-unfolding frame
-frame-tests s f e =
-    let a = when-accepted _ (ltb (length s) 3) _ f e in
-    let b = when-accepted _ (eqb (at16 s 0) 0) _ f (a .1) in
-    let d = when-accepted _ (ltb (length s) (3 + at16 s 0)) _ f (b .1) in
-    let w : 3 + at16 s 0 ≤ length s = ltb-false (length s) (3 + at16 s 0) (d .0) in
-    let p : at16 s 0 ≢ 0 = eqb-false (at16 s 0) 0 (b .0) in
-    let same : front s (at16 s 0) ≡ f = accepted-inj (front s (at16 s 0)) f (d .1) in
-    (record { some = omega arith; within = w; reads = e ∙ ap accepted (sym same) }, sym same)
+frame-front : (s : List ℕ) (f : Frame) → frame s ≡ accepted f → Framed s (length (f .body)) × (f ≡ front s (length (f .body)))
+frame-front s f e =
+    let w = frame-says s f e in
+    let same : f ≡ front s (length (f .body)) = rw (w .type-at, w .body-at) in
+    (record { some = w .some-body; within = w .within; reads = e ∙ ap accepted same }, same)
 
-pub frame-accepted : (s : List ℕ) (n : ℕ) → accepted n ≡ given body-length (frame s) → Framed s n
+frame-accepted : (s : List ℕ) (n : ℕ) → accepted n ≡ given body-length (frame s) → Framed s n
 frame-accepted s n e =
     let (f, reads, len) = given-accepted body-length (frame s) n e in
-    let (t, same) = frame-tests s f reads in
-    let m : at16 s 0 ≡ n = sym (len ∙ ap body-length same ∙ front-length s (at16 s 0) (t .within)) in
-    subst (λ (k : ℕ). Framed s k) m t
+    subst (λ (k : ℕ). Framed s k) (sym len) (frame-front s f reads .0)
 
 -- ---- the kind's length
 
@@ -130,11 +123,13 @@ no-scan load-balancing body = refl
 no-scan (address family role) body = refl
 no-scan unknown body = refl
 
-after-frame : (text : List ℕ → Verdict) (s : List ℕ) (n : ℕ) → Framed s n → one-option text s ≡ (judge-kind text (getD s 2 0) (body-at s n) >> accepted (front s n))
+after-frame : (text : List ℕ → Verdict) (s : List ℕ) (n : ℕ) → Framed s n
+    → one-option text s ≡ (judge-kind text (getD s 2 0) (body-at s n) >> accepted (front s n))
 unfolding one-option _>>=_
 after-frame text s n t = rw (t .reads)
 
-pub frame-refuses : (s : List ℕ) (a : LengthAnswer) (q r : code.Refusal) → length-said a ≡ given body-length (frame s) → a ≡ len.Refused q → r ≡ length-refusal a → refused (said r) ≡ given head-of (one-option unscanned s)
+pub frame-refuses : (s : List ℕ) (a : LengthAnswer) (q r : code.Refusal) → length-said a ≡ given body-length (frame s) → a ≡ len.Refused q
+    → r ≡ length-refusal a → refused (said r) ≡ given head-of (one-option unscanned s)
 unfolding one-option _>>=_ given
 frame-refuses s a q r told e w =
     let f : frame s ≡ refused (said q) = given-refused body-length (frame s) (said q) (sym (ap length-said e) ∙ told) in
@@ -151,7 +146,8 @@ then-then (accepted u) w a = refl
 then-then (refused q) w a = refl
 
 -- what is told of the frame of `n` bytes
-pub front-head : (s : List ℕ) (n : ℕ) → 1 ≤ n → 3 + n ≤ length s → head-of (front s n) ≡ record { row = row-of (getD s 2 0); discardable = has (getD s 3 0) 0x80; size = 3 + n }
+pub front-head : (s : List ℕ) (n : ℕ) → 1 ≤ n → 3 + n ≤ length s
+    → head-of (front s n) ≡ record { row = row-of (getD s 2 0); discardable = has (getD s 3 0) 0x80; size = 3 + n }
 front-head s n some within =
     let b : getD (take n (drop 3 s)) 0 0 ≡ getD s 3 0 = getD-take n (drop 3 s) 0 0 some ∙ getD-drop 3 s 0 0 in
     rw (b, front-length s n within)
@@ -161,7 +157,8 @@ frame-told s a n told e = frame-accepted s n (sym (ap length-said e) ∙ told)
 
 -- after its frame: its kind's length, then its string
 module _ (s : List ℕ) (n : ℕ) (t : Framed s n) (w : Row) (same : w ≡ row-of (getD s 2 0)) where
-  in-order : (text : List ℕ → Verdict) → one-option text s ≡ (judge-length (w .len) (body-at s n) >> (judge-text text (w .kind) (body-at s n) >> accepted (front s n)))
+  in-order : (text : List ℕ → Verdict)
+      → one-option text s ≡ (judge-length (w .len) (body-at s n) >> (judge-text text (w .kind) (body-at s n) >> accepted (front s n)))
   unfolding judge-kind
   in-order text = after-frame text s n t ∙ then-then (judge-length (row-of (getD s 2 0) .len) (body-at s n)) (judge-text text (kind-of (getD s 2 0)) (body-at s n)) (accepted (front s n)) ∙ rw same
 
@@ -181,7 +178,8 @@ module _ (s : List ℕ) (n : ℕ) (t : Framed s n) (w : Row) (same : w ≡ row-o
         let f = then-accepted (judge-length (w .len) (body-at s n)) (accepted (length (body-at s n))) m (sym (sym (ap length-said e) ∙ told)) in
         in-order unscanned ∙ rw (f .0, no-scan (w .kind) (body-at s n))
 
-    pub head-told : (m : ℕ) → a ≡ len.Good m → (d : Bool) → d ≡ has (getD s 3 0) 0x80 → accepted (record { row = w; discardable = d; size = 3 + n }) ≡ given head-of (one-option unscanned s)
+    pub head-told : (m : ℕ) → a ≡ len.Good m → (d : Bool) → d ≡ has (getD s 3 0) 0x80
+        → accepted (record { row = w; discardable = d; size = 3 + n }) ≡ given head-of (one-option unscanned s)
     unfolding given
     head-told m e d bit = rw (kind-accepts m e, front-head s n (t .some) (t .within), same, bit)
 
@@ -202,14 +200,17 @@ pub record Found (text : List ℕ → Verdict) (s : List ℕ) (h : Head) : Type 
   pub head : h ≡ head-of (front s (h .size - 3))
 
 module _ (text : List ℕ → Verdict) (s : List ℕ) where
-  pub read-stands : (f : Frame) → one-option text s ≡ accepted f → Stands s (at16 s 0) f
+  pub read-stands : (f : Frame) → one-option text s ≡ accepted f → Stands s (length (f .body)) f
   unfolding one-option judge-kind
   read-stands f e =
       let (g, framed, rest) = bind-accepted (frame s) _ f e in
       let (judged, kept) = then-accepted (judge-kind text (g .type) (g .body)) (accepted g) f rest in
-      let (t, same) = frame-tests s g framed in
       let fits = then-accepted (judge-length (row-of (g .type) .len) (g .body)) (judge-text text (kind-of (g .type)) (g .body)) tt judged .0 in
-      record { framed = t; same = sym (accepted-inj g f kept) ∙ same; fits = rw same at fits }
+      subst (λ (x : Frame). Stands s (length (x .body)) x) (accepted-inj g f kept) (stands g (frame-front s g framed) fits)
+    where
+      stands : (g : Frame) → Framed s (length (g .body)) × (g ≡ front s (length (g .body))) → judge-length (row-of (g .type) .len) (g .body) ≡ pass
+          → Stands s (length (g .body)) g
+      stands g t fits = record { framed = t .0; same = t .1; fits = subst (λ (x : Frame). judge-length (row-of (x .type) .len) (x .body) ≡ pass) (t .1) fits }
 
   found-head : (h : Head) → accepted h ≡ given head-of (one-option text s) → Found text s h
   found-head h e =
@@ -217,9 +218,9 @@ module _ (text : List ℕ → Verdict) (s : List ℕ) where
       let t = read-stands f reads in
       let w = t .framed .within in
       let some = t .framed .some in
-      let z : h ≡ head-of (front s (at16 s 0)) = told ∙ ap head-of (t .same) in
-      let long : h .size ≡ 3 + at16 s 0 = ap (λ (x : Head). x .size) z ∙ ap (λ (k : ℕ). 3 + k) (front-length s (at16 s 0) w) in
-      let n : at16 s 0 ≡ h .size - 3 = omega arith in
+      let z : h ≡ head-of (front s (length (f .body))) = told ∙ ap head-of (t .same) in
+      let long : h .size ≡ 3 + length (f .body) = ap (λ (x : Head). x .size) z ∙ ap (λ (k : ℕ). 3 + k) (front-length s (length (f .body)) w) in
+      let n : length (f .body) ≡ h .size - 3 = omega arith in
       record {
         some = omega arith;
         within = omega arith;
@@ -249,7 +250,8 @@ module _ (text : List ℕ → Verdict) (s : List ℕ) where
 
 -- ---- the string, scanned after all else
 
-rescan : (v t u : Verdict) (f : Frame) (k : Frame → Answer Frame) → u ≡ pass → k f ≡ (t >> accepted f) → ((v >> t) >> accepted f) ≡ (((v >> u) >> accepted f) >>= k)
+rescan : (v t u : Verdict) (f : Frame) (k : Frame → Answer Frame) → u ≡ pass → k f ≡ (t >> accepted f)
+    → ((v >> t) >> accepted f) ≡ (((v >> u) >> accepted f) >>= k)
 unfolding _>>_ _>>=_
 rescan (accepted x) t u f k e w = rw (e, w)
 rescan (refused r) t u f k e w = refl
@@ -263,7 +265,8 @@ rescan-frame text (accepted f) =
     (λ g. judge-text text (kind-of (g .type)) (g .body) >> accepted g) (no-scan (kind-of (f .type)) (f .body)) refl
 rescan-frame text (refused r) = refl
 
-pub rescanned : (text : List ℕ → Verdict) (s : List ℕ) → one-option text s ≡ (one-option unscanned s >>= λ f. judge-text text (kind-of (f .type)) (f .body) >> accepted f)
+pub rescanned : (text : List ℕ → Verdict) (s : List ℕ)
+    → one-option text s ≡ (one-option unscanned s >>= λ f. judge-text text (kind-of (f .type)) (f .body) >> accepted f)
 unfolding one-option
 rescanned text s = rescan-frame text (frame s)
 
@@ -316,6 +319,7 @@ module _ (s : List ℕ) (a : OptionAnswer) (told : option-said a ≡ given head-
       pub string-valid : str ≡ string.Valid → accepted (head-said hd) ≡ given head-of (read-option s)
       string-valid v = scan-passes (judged ∙ ap answered v)
 
-      pub string-refused : (error : StringError) (r : code.Refusal) → str ≡ string.Refused error → r ≡ string-refusal str → refused (said r) ≡ given head-of (read-option s)
+      pub string-refused : (error : StringError) (r : code.Refusal) → str ≡ string.Refused error → r ≡ string-refusal str
+          → refused (said r) ≡ given head-of (read-option s)
       unfolding given _>>_
       string-refused error r v z = rw (scans, judged, z, v)

@@ -39,7 +39,10 @@ abbrev pub length-said : LengthAnswer → Answer ℕ
 length-said (len.Good n) = accepted n
 length-said (len.Refused r) = refused (said r)
 
--- how many bytes follow the type
+-- the bytes after the type, and how many they are
+abbrev pub body-of : Frame → List ℕ
+body-of f = f .body
+
 abbrev pub body-length : Frame → ℕ
 body-length f = length (f .body)
 
@@ -64,7 +67,3 @@ string-refusal (string.Refused error) = ConfigurationString error
 abbrev pub option-refusal : OptionAnswer → Refusal
 option-refusal (option.Good h) = NothingThere
 option-refusal (option.Refused r) = r
-
--- the bytes after the type
-abbrev pub body-of : Frame → List ℕ
-body-of f = f .body

@@ -1,20 +1,20 @@
 // The fields of the option in front of a slice, whatever else stands in it. An option of another kind has no such field, which is refusal 20;
 // bytes that hold no option get the refusal of their reading. Configuration strings are not scanned.
+use crate::kinds::OptionKind;
+use crate::reading::OptionAnswer;
+use crate::reading::option_refusal;
+use crate::reading::read_option_unscanned;
+use big_endian::be16;
+use refusal::Refusal;
 ghost use mathlib.Core.Path.{_≡_};
-ghost use Prim.Native.Nat.{ℕ, _+_, _≤_};
+ghost use Prim.Native.Nat.{ℕ, _≤_};
 ghost use mathlib.Core.List.{List};
 ghost use lib.ListN.{length, take, drop};
 ghost use Rattle.numbers.specs.Answers.{given};
 ghost use Rattle.numbers.specs.Bytes.{at16};
 ghost use Rattle.sd_format.specs.Fields.{asked, of-address, of-load-balancing, of-configuration, address-bytes, protocol, port, priority, weight, string};
-ghost use Rattle.sd_option.specs.Kinds.{row-said};
-ghost use Rattle.sd_option.specs.Reading.{part, option-refusal};
+ghost use Rattle.sd_option.specs.Reading.{part};
 ghost use Rattle.sd_option.specs.Fields.{byte-said, word-said, size-said, size-refusal, size-asked, end-of, of-unknown, unknown-type};
-use crate::bytes::be16;
-use crate::kinds::OptionKind;
-use crate::reading::OptionAnswer;
-use crate::reading::read_option_unscanned;
-use refusal::Refusal;
 
 pub enum ByteAnswer {
     Good(u8),
@@ -29,16 +29,6 @@ pub enum WordAnswer {
 pub enum SizeAnswer {
     Good(usize),
     Refused(Refusal),
-}
-
-// Why an option was refused.
-fn option_refusal(answer: OptionAnswer) -> Refusal
-    ensures { λ r. ⌜ r ≡ option-refusal answer ⌝ }
-{
-    match answer {
-        OptionAnswer::Good(_) => Refusal::NothingThere,
-        OptionAnswer::Refused(refusal) => refusal,
-    }
 }
 
 // Why a field was refused.

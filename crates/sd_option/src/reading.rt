@@ -1,4 +1,14 @@
 // The reading of one option from the front of a slice: first its frame, then its kind.
+use crate::bytes::is_discardable;
+use crate::kinds::KindLength;
+use crate::kinds::OptionKind;
+use crate::kinds::kind_of;
+use crate::kinds::row_of;
+use big_endian::be16;
+use config_string::StringAnswer;
+use config_string::check_string;
+use refusal::LengthSource;
+use refusal::Refusal;
 ghost use mathlib.Core.Path.{_≡_};
 ghost use Prim.Native.Nat.{ℕ};
 ghost use mathlib.Core.List.{List};
@@ -7,20 +17,9 @@ ghost use Rattle.numbers.specs.Answers.{given};
 ghost use Rattle.sd_format.specs.Kinds.{unscanned};
 ghost use Rattle.sd_format.specs.Frames.{frame, one-option, read-option};
 ghost use Rattle.sd_option.specs.Kinds.{row-said};
-ghost use Rattle.sd_option.specs.Permits.{permit-said, head-permit};
-ghost use Rattle.sd_option.specs.Reading.{head-said, length-said, length-judged, length-refusal, string-refusal, body-length, body-of, part, option-said, head-of};
-use crate::bytes::be16;
-use crate::bytes::is_discardable;
-use crate::kinds::KindLength;
-use crate::kinds::OptionKind;
-use crate::kinds::kind_of;
-use crate::kinds::row_of;
-use config_string::StringAnswer;
-use config_string::check_string;
-use refusal::LengthSource;
-use refusal::Refusal;
+ghost use Rattle.sd_option.specs.Reading.{length-said, length-judged, length-refusal, string-refusal, option-refusal, body-length, body-of, part, option-said, head-of};
 
-// What is told of an option: its kind, the discardable bit, and how many bytes it takes, the length and the type among them.
+// What is told of an option: its kind, the discardable bit, and how many bytes it takes, its length and its type among them.
 pub struct OptionHead {
     pub kind: OptionKind,
     pub discardable: bool,
@@ -146,6 +145,16 @@ pub fn read_option(s: &[u8]) -> OptionAnswer
     answer
 }
 
+// Why an option was refused; 20 where it was not.
+pub fn option_refusal(answer: OptionAnswer) -> Refusal
+    ensures { λ r. ⌜ r ≡ option-refusal answer ⌝ }
+{
+    match answer {
+        OptionAnswer::Good(_) => Refusal::NothingThere,
+        OptionAnswer::Refused(refusal) => refusal,
+    }
+}
+
 // The bytes after the type of the option in front of `s`, its configuration string not scanned; none where it is refused.
 pub fn option_bytes_unscanned(s: &[u8]) -> &[u8]
     ensures { λ r. ⌜ now r ≡ part (given body-of (one-option unscanned (now (s .entry)))) ⌝ }
@@ -168,26 +177,4 @@ pub fn option_bytes(s: &[u8]) -> &[u8]
     };
     let size = head.size;
     &s[3..size]
-}
-
-pub enum PermitAnswer {
-    Good,
-    Refused(Refusal),
-}
-
-// Whether an option may stand: an unknown one needs the discardable bit, unless the discard setting is on.
-pub fn permit(discard: bool, head: OptionHead) -> PermitAnswer
-    ensures { λ r. ⌜ permit-said r ≡ head-permit discard (head-said head) ⌝ }
-{
-    let kind = head.kind;
-    let OptionKind::Unknown(code) = kind else {
-        return PermitAnswer::Good;
-    };
-    if discard {
-        return PermitAnswer::Good;
-    }
-    if head.discardable {
-        return PermitAnswer::Good;
-    }
-    PermitAnswer::Refused(Refusal::UnknownOption(code))
 }

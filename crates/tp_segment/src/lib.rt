@@ -1,6 +1,6 @@
 // One segment: whether bytes are one (answer 30), and what its header says. (tp_header.rs)
+use big_endian::be32;
 ghost use mathlib.Core.Path.{_≡_};
-ghost use Prim.Native.Nat.{_+_, _*_, _<_};
 ghost use Rattle.tp_machine.specs.Segments.{tpType, isSegment};
 ghost use Rattle.tp_segment.specs.Reading.{told, reading};
 
@@ -15,19 +15,6 @@ pub struct TpHeader {
 pub enum TpSegment {
     Good(TpHeader),
     NotASegment,
-}
-
-fn wide(x: u8) -> u32
-    ensures { λ r. ⌜ (r ≡ x) × (r < 256) ⌝ }
-{
-    x as u32
-}
-
-// The number of four bytes, the high one first.
-fn word(a: u8, b: u8, c: u8, d: u8) -> u32
-    ensures { λ r. ⌜ r ≡ (a * 256 + b) * 65536 + (c * 256 + d) ⌝ }
-{
-    (wide(a) * 256 + wide(b)) * 65536 + (wide(c) * 256 + wide(d))
 }
 
 // Whether a message type has the TP bit.
@@ -47,7 +34,7 @@ pub fn is_segment(s: &[u8]) -> bool
     if s.len() < 20 {
         return false;
     }
-    let field = word(s[4], s[5], s[6], s[7]) as usize;
+    let field = be32(s[4], s[5], s[6], s[7]) as usize;
     if field != s.len() - 8 {
         return false;
     }
@@ -62,7 +49,7 @@ pub fn read(s: &[u8]) -> TpSegment
     ensures { λ r. ⌜ told r ≡ reading (now (s .entry)) ⌝ }
 {
     if is_segment(s) {
-        let tp = word(s[16], s[17], s[18], s[19]);
+        let tp = be32(s[16], s[17], s[18], s[19]);
         return TpSegment::Good(TpHeader {
             offset: tp - tp % 16,
             more: tp % 2 == 1,

@@ -10,34 +10,34 @@ use Rattle.tp_segment.proofs.is_segment.Statement.{statement}
 use Rattle.tp_segment.proofs.is_segment.Tie as tie
 
 -- what the tests that passed tell
-module _ (c : tie.After-word) where
+module _ (c : tie.After-be32) where
   abbrev bytes : List ℕ
   bytes = c .before .before .before .before .before .before .before .args .s .now
 
   long : 20 ≤ length bytes
   long = c .before .before .before .before .before .if1 .left
 
-  field : c .word .result ≡ at32 bytes 4
+  field : c .be32 .result ≡ at32 bytes 4
   unfolding at32 at16
-  field = c .word .ensures
+  field = c .be32 .ensures
 
 returns : tie.Need-returns
 returns c = sym (is-short _ (c .if1 .taken))
 
-shared-slice-read-word : tie.Need-shared-slice-read-word
-shared-slice-read-word c = search needs
+shared-slice-read-be32 : tie.Need-shared-slice-read-be32
+shared-slice-read-be32 c = search needs
 
-shared-slice-read-word-2 : tie.Need-shared-slice-read-word-2
-shared-slice-read-word-2 c = search needs
+shared-slice-read-be32-2 : tie.Need-shared-slice-read-be32-2
+shared-slice-read-be32-2 c = search needs
 
-shared-slice-read-word-3 : tie.Need-shared-slice-read-word-3
-shared-slice-read-word-3 c = search needs
+shared-slice-read-be32-3 : tie.Need-shared-slice-read-be32-3
+shared-slice-read-be32-3 c = search needs
 
-shared-slice-read-word-4 : tie.Need-shared-slice-read-word-4
-shared-slice-read-word-4 c = search needs
+shared-slice-read-be32-4 : tie.Need-shared-slice-read-be32-4
+shared-slice-read-be32-4 c = search needs
 
-word-requires : tie.Need-word-requires
-word-requires c κs = search needs
+be32-requires : tie.Need-be32-requires
+be32-requires c κs = search needs
 
 cast-field : tie.Need-cast-field
 cast-field c = search needs
@@ -77,11 +77,11 @@ is-segment-spec =
     tie.close
     (tie.spec
     returns
-    shared-slice-read-word
-    shared-slice-read-word-2
-    shared-slice-read-word-3
-    shared-slice-read-word-4
-    word-requires
+    shared-slice-read-be32
+    shared-slice-read-be32-2
+    shared-slice-read-be32-3
+    shared-slice-read-be32-4
+    be32-requires
     cast-field
     sub-if2
     returns-2

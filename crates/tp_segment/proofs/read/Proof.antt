@@ -13,27 +13,27 @@ use Rattle.tp_segment.proofs.read.Tie as tie
 long : (c : tie.Then1) → 20 ≤ length (c .before .before .before .args .s .now)
 long c = is-long _ (sym (c .before .is-segment .ensures) ∙ c .if1 .taken)
 
-word-is : (c : tie.After-word) → c .word .result ≡ at32 (c .before .before .before .before .before .before .before .before .args .s .now) 16
+word-is : (c : tie.After-be32) → c .be32 .result ≡ at32 (c .before .before .before .before .before .before .before .before .args .s .now) 16
 unfolding at32 at16
-word-is c = c .word .ensures
+word-is c = c .be32 .ensures
 
 is-segment-requires : tie.Need-is-segment-requires
 is-segment-requires c κs = search needs
 
-shared-slice-read-word : tie.Need-shared-slice-read-word
-shared-slice-read-word c = omega (arith, long (c .before))
+shared-slice-read-be32 : tie.Need-shared-slice-read-be32
+shared-slice-read-be32 c = omega (arith, long (c .before))
 
-shared-slice-read-word-2 : tie.Need-shared-slice-read-word-2
-shared-slice-read-word-2 c = omega (arith, long (c .before .before))
+shared-slice-read-be32-2 : tie.Need-shared-slice-read-be32-2
+shared-slice-read-be32-2 c = omega (arith, long (c .before .before))
 
-shared-slice-read-word-3 : tie.Need-shared-slice-read-word-3
-shared-slice-read-word-3 c = omega (arith, long (c .before .before .before))
+shared-slice-read-be32-3 : tie.Need-shared-slice-read-be32-3
+shared-slice-read-be32-3 c = omega (arith, long (c .before .before .before))
 
-shared-slice-read-word-4 : tie.Need-shared-slice-read-word-4
-shared-slice-read-word-4 c = omega (arith, long (c .before .before .before .before))
+shared-slice-read-be32-4 : tie.Need-shared-slice-read-be32-4
+shared-slice-read-be32-4 c = omega (arith, long (c .before .before .before .before))
 
-word-requires : tie.Need-word-requires
-word-requires c κs = search needs
+be32-requires : tie.Need-be32-requires
+be32-requires c κs = search needs
 
 sub-t13 : tie.Need-sub-t13
 sub-t13 c = search needs
@@ -54,11 +54,11 @@ read-spec =
     tie.close
     (tie.spec
     is-segment-requires
-    shared-slice-read-word
-    shared-slice-read-word-2
-    shared-slice-read-word-3
-    shared-slice-read-word-4
-    word-requires
+    shared-slice-read-be32
+    shared-slice-read-be32-2
+    shared-slice-read-be32-3
+    shared-slice-read-be32-4
+    be32-requires
     sub-t13
     sub-t17
     returns

@@ -11,8 +11,7 @@ use Rattle.sd_format.specs.Settings.{Settings}
 use Rattle.sd_format.specs.Frames.{Frame, permit, all-options}
 use Rattle.refusal.specs.declared.Refusal.{Refusal}
 use Rattle.refusal.specs.Said.{said}
-use Rattle.sd_option.specs.Permits.{permit-said}
-use Rattle.sd_index.specs.Said.{settings-said, swept-refusal}
+use Rattle.sd_index.specs.Said.{settings-said, permission-said, swept-refusal}
 use Rattle.sd_index.specs.Indexed.{Sweeps, indexed}
 use Rattle.sd_index.proofs.IndexLaws.{swept-refused, swept-done, done-past, index-few-slots, index-refused, index-good, indexed-long, indexed-refused, indexed-not-permitted, indexed-accepted}
 use Rattle.sd_index.proofs.reading.read_options.Statement.{statement}
@@ -95,7 +94,7 @@ returns-4 c =
     let n = done .all .given .0 .0 in
     let (fs, read, count, permits, table) = swept-done (G start) (S start) (T start) _ _ (w .sweep .ensures) n _ (done .all .given .1) in
     index-refused (indexed (G start) (S start)) (T start) (short .before .if1 .left) _ (w .sweep .last .1 .1 .0) _
-    (indexed-not-permitted (G start) (S start) (short .if2 .left) fs _ read (sym permits ∙ ap permit-said (arm .permission .given .1)))
+    (indexed-not-permitted (G start) (S start) (short .if2 .left) fs _ read (sym permits ∙ ap permission-said (arm .permission .given .1)))
     (done-past (G start) (S start) (T start) _ _ (w .sweep .ensures) (short .if2 .left) n _ (done .all .given .1) .1) (zero .zero-from3 .ensures)
 
 enum-told-2 : tie.Need-enum-told-2
@@ -123,7 +122,7 @@ returns-5 c =
     let n = done .all .given .0 .0 in
     let (fs, read, count, permits, table) = swept-done (G start) (S start) (T start) _ _ (w .sweep .ensures) n _ (done .all .given .1) in
     index-good (indexed (G start) (S start)) (T start) (short .before .if1 .left) fs n (w .sweep .last .1 .1 .0) _
-    (indexed-accepted (G start) (S start) (short .if2 .left) fs read (sym permits ∙ ap permit-said (arm .enum-told2 .given .1))) count
+    (indexed-accepted (G start) (S start) (short .if2 .left) fs read (sym permits ∙ ap permission-said (arm .enum-told2 .given .1))) count
     (done-past (G start) (S start) (T start) _ _ (w .sweep .ensures) (short .if2 .left) n _ (done .all .given .1) .0) table (zero .zero-from4 .ensures)
 
 pub read-options-spec : {M : Type 1} → statement M

@@ -13,24 +13,25 @@ use Rattle.sd_format.specs.Settings.{Settings}
 use Rattle.sd_format.specs.Frames.{Frame, size, read-option, permit, all-options}
 use Rattle.refusal.specs.Said.{said}
 use Rattle.sd_option.specs.Reading.{Head, head-of, head-said, option-said, option-refusal}
-use Rattle.sd_option.specs.Permits.{permit-said, discarding, head-permit}
-use Rattle.sd_option.proofs.PermitLaws.{head-permits}
 use Rattle.sd_option.proofs.ReadingLaws.{given-accepted, given-refused}
+use Rattle.sd_index.specs.Said.{settings-said, permission-said}
+use Rattle.sd_index.specs.Permission.{permit-told}
+use Rattle.sd_index.proofs.PermissionLaws.{told-permits}
 use Rattle.sd_index.proofs.Turns.{Turn, turn-starts, turn-length, turn-past, turn-stops, turn-within, turn-next, turn-ends}
 use Rattle.sd_index.proofs.reading.sweep.Statement.{statement}
 use Rattle.sd_index.proofs.reading.sweep.Tie as tie
 
 abbrev Inv-loop : tie.InvT-loop
-Inv-loop discard options table₀ at₀ count₀ permission₀ table at count permission =
-    Turn (discarding discard) options table₀ table at count (permit-said permission)
+Inv-loop settings options table₀ at₀ count₀ permission₀ table at count permission =
+    Turn (settings-said settings) options table₀ table at count (permission-said permission)
 
 abbrev μ-loop : tie.MeasureT-loop
-μ-loop discard options table₀ at₀ count₀ permission₀ table at count permission = length options - at
+μ-loop settings options table₀ at₀ count₀ permission₀ table at count permission = length options - at
 
 -- ---- at the loop's head: the settings, the bytes and the table at entry
 
 abbrev G : tie.At-loop Inv-loop μ-loop → Settings
-G c = discarding (c .before .before .before .args .discard)
+G c = settings-said (c .before .before .before .args .settings)
 
 abbrev S : tie.At-loop Inv-loop μ-loop → List ℕ
 S c = now (c .before .before .before .args .options)
@@ -90,8 +91,8 @@ enum-known-answer c = search needs
 enum-told : tie.Need-enum-told Inv-loop μ-loop
 enum-told c = search needs
 
-refusal-of-requires : tie.Need-refusal-of-requires Inv-loop μ-loop
-refusal-of-requires c κs = search needs
+option-refusal-requires : tie.Need-option-refusal-requires Inv-loop μ-loop
+option-refusal-requires c κs = search needs
 
 same-length : tie.Need-same-length Inv-loop μ-loop
 same-length c = long (c .before .before .before .before .before)
@@ -102,7 +103,7 @@ returns c =
     let i = r .before .before in
     let l = i .before .loop in
     let q = c .before .enum-told .given .0 .0 in
-    let why : c .refusal-of .result ≡ q = c .refusal-of .ensures ∙ ap option-refusal (c .before .enum-told .given .1) in
+    let why : c .option-refusal .result ≡ q = c .option-refusal .ensures ∙ ap option-refusal (c .before .enum-told .given .1) in
     let stops : all-options (S (i .before)) ≡ refused (said q) =
     turn-stops _ _ _ _ _ _ _ (l .inv) (i .loop-test .taken) (said q) (given-refused head-of _ (said q) (sym (ap option-said (c .before .enum-told .given .1)) ∙ told r)) in
     (stops ∙ ap (λ (x : _). refused (said x)) (sym why), long i, turn-past _ _ _ _ _ _ _ (l .inv) (omega (arith, sizes i)) (omega (arith, sizes i)))
@@ -116,8 +117,8 @@ mul-table c = omega (arith, sizes (c .before .before .before .before .before .be
 slice-write-table : tie.Need-slice-write-table Inv-loop μ-loop
 slice-write-table c = omega (arith, sizes (c .before .before .before .before .before .before), long (c .before .before .before .before .before .before))
 
-permit-requires : tie.Need-permit-requires Inv-loop μ-loop
-permit-requires c κs = search needs
+permission-of-requires : tie.Need-permission-of-requires Inv-loop μ-loop
+permission-of-requires c κs = search needs
 
 first-requires : tie.Need-first-requires Inv-loop μ-loop
 first-requires c κs = search needs
@@ -141,7 +142,7 @@ loop-again c =
     let (f, e, h) = frame-at a in
     turn-next _ _ _ _ _ _ _ (i .before .loop .inv) (i .loop-test .taken) f e (omega (arith, sizes i)) _ (slot .slot-of .ensures) _ (size-is a) _
     (first .first .ensures
-    ∙ ap (λ (w : Verdict). permit-said (i .before .loop .permission) >> w) (permission .permit .ensures ∙ ap (head-permit (G (i .before) .discard)) h ∙ head-permits (G (i .before)) f))
+    ∙ ap (λ (w : Verdict). permission-said (i .before .loop .permission) >> w) (permission .permission-of .ensures ∙ ap (permit-told (G (i .before))) h ∙ sym (told-permits (G (i .before)) f)))
 
 same-length-2 : tie.Need-same-length-2 Inv-loop μ-loop
 same-length-2 c = turn-length _ _ _ _ _ _ _ (c .before .loop .inv) (omega (arith, c .before .loop .inv .few, c .before .loop .inv .within, c .before .before .before .before .pre))
@@ -164,13 +165,13 @@ sweep-spec =
     read-option-requires
     enum-known-answer
     enum-told
-    refusal-of-requires
+    option-refusal-requires
     same-length
     returns
     slot-of-requires
     mul-table
     slice-write-table
-    permit-requires
+    permission-of-requires
     first-requires
     add-count
     add-at

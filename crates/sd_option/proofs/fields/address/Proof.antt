@@ -1,7 +1,7 @@
 -- `fields::address` meets its contract: its bytes stand behind the first one. Assumes nothing.
 use mathlib.Core.Path.{_∙_}
 use Rattle.sd_format.specs.Fields.{of-address, address-bytes}
-use Rattle.sd_option.proofs.FieldLaws.{address-behind, end-within, part-there}
+use Rattle.sd_option.proofs.PartLaws.{address-behind, end-within, part-there}
 use borrow.Author.Needs.{needs}
 use Rattle.sd_option.proofs.fields.address.Statement.{statement}
 use Rattle.sd_option.proofs.fields.address.Tie as tie

@@ -4,7 +4,8 @@ use denote.Ref.{now}
 use Rattle.sd_format.specs.Kinds.{unscanned}
 use Rattle.sd_option.specs.Reading.{head-said}
 use Rattle.sd_option.proofs.ReadingLaws.{Found, found}
-use Rattle.sd_option.proofs.FieldLaws.{size-of-refused, address-size, no-address, address-arms}
+use Rattle.sd_option.proofs.AskedLaws.{size-of-refused}
+use Rattle.sd_option.proofs.AddressLaws.{address-size, no-address, address-arms}
 use borrow.Author.Needs.{needs}
 use Rattle.sd_option.proofs.fields.address_size.Statement.{statement}
 use Rattle.sd_option.proofs.fields.address_size.Tie as tie

@@ -6,7 +6,8 @@ use Rattle.sd_option.specs.Reading.{head-said}
 use Rattle.sd_option.proofs.ReadingLaws.{Found, found}
 use mathlib.Core.Path.{sym}
 use Rattle.sd_option.proofs.KindLaws.{not-balancing}
-use Rattle.sd_option.proofs.FieldLaws.{asked-of-refused, balancing-size, balancing-told, no-balancing-told}
+use Rattle.sd_option.proofs.AskedLaws.{asked-of-refused}
+use Rattle.sd_option.proofs.FieldLaws.{balancing-size, balancing-told, no-balancing-told}
 use borrow.Author.Needs.{needs}
 use Rattle.sd_option.proofs.fields.balancing.Statement.{statement}
 use Rattle.sd_option.proofs.fields.balancing.Tie as tie

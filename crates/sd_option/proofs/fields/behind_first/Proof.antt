@@ -3,7 +3,7 @@ use Prim.Native.Nat.{_+_, _≤_}
 use native.Mathlib.Omega.{arith}
 use lib.ListN.{length}
 use denote.Ref.{now}
-use Rattle.sd_option.proofs.FieldLaws.{end-told, part-told, no-part}
+use Rattle.sd_option.proofs.PartLaws.{end-told, part-told, no-part}
 use borrow.Author.Needs.{needs}
 use Rattle.sd_option.proofs.fields.behind_first.Statement.{statement}
 use Rattle.sd_option.proofs.fields.behind_first.Tie as tie

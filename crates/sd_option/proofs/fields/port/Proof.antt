@@ -2,7 +2,7 @@
 use native.Mathlib.Omega.{arith}
 use denote.Ref.{now}
 use Rattle.sd_format.specs.Fields.{port}
-use Rattle.sd_option.proofs.FieldLaws.{Addressed, address-told, of-refused, port-told}
+use Rattle.sd_option.proofs.AddressLaws.{Addressed, address-told, of-refused, port-told}
 use borrow.Author.Needs.{needs}
 use Rattle.sd_option.proofs.fields.port.Statement.{statement}
 use Rattle.sd_option.proofs.fields.port.Tie as tie

@@ -1,7 +1,7 @@
 -- `fields::string` meets its contract: its bytes stand behind the first one. Assumes nothing.
 use mathlib.Core.Path.{_∙_}
 use Rattle.sd_format.specs.Fields.{of-configuration, string}
-use Rattle.sd_option.proofs.FieldLaws.{string-behind, end-within, part-there}
+use Rattle.sd_option.proofs.PartLaws.{string-behind, end-within, part-there}
 use borrow.Author.Needs.{needs}
 use Rattle.sd_option.proofs.fields.string.Statement.{statement}
 use Rattle.sd_option.proofs.fields.string.Tie as tie

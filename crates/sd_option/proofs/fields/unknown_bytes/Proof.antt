@@ -2,7 +2,7 @@
 use mathlib.Core.Path.{_∙_}
 use Rattle.sd_format.specs.Fields.{string}
 use Rattle.sd_option.specs.Fields.{of-unknown}
-use Rattle.sd_option.proofs.FieldLaws.{unknown-behind, end-within, part-there}
+use Rattle.sd_option.proofs.PartLaws.{unknown-behind, end-within, part-there}
 use borrow.Author.Needs.{needs}
 use Rattle.sd_option.proofs.fields.unknown_bytes.Statement.{statement}
 use Rattle.sd_option.proofs.fields.unknown_bytes.Tie as tie

@@ -5,7 +5,8 @@ use Rattle.sd_format.specs.Kinds.{unscanned}
 use Rattle.sd_option.specs.Reading.{head-said}
 use Rattle.sd_option.proofs.ReadingLaws.{Found, found}
 use Rattle.sd_option.proofs.KindLaws.{is-unknown, not-unknown}
-use Rattle.sd_option.proofs.FieldLaws.{size-of-refused, unknown-size, no-unknown-size}
+use Rattle.sd_option.proofs.AskedLaws.{size-of-refused}
+use Rattle.sd_option.proofs.FieldLaws.{unknown-size, no-unknown-size}
 use borrow.Author.Needs.{needs}
 use Rattle.sd_option.proofs.fields.unknown_size.Statement.{statement}
 use Rattle.sd_option.proofs.fields.unknown_size.Tie as tie

@@ -1,6 +1,7 @@
 -- `reading::judged_length` meets its contract: any length, the same one, another one. Assumes nothing.
 use mathlib.Core.Path.{_≡_, sym, ap, _∙_}
-use Rattle.sd_format.specs.Kinds.{Length}
+use mathlib.Core.Logic.{_≢_}
+use native.Mathlib.Omega.{arith}
 use Rattle.sd_option.specs.declared.kinds.KindRow.{KindRow}
 use Rattle.sd_option.specs.Kinds.{row-said, length-encoded}
 use Rattle.sd_option.proofs.KindLaws.{asks-any, asks-exactly}
@@ -18,11 +19,14 @@ enum-known-asked c = search needs
 enum-told : tie.Need-enum-told
 enum-told c = search needs
 
+-- what the row asks
+asks : (c : tie.After-row-of) → length-encoded (row-said (c .before .args .kind) .len) ≡ c .row-of .result .len
+asks c = sym (ap (λ (r : KindRow). r .len) (c .row-of .ensures))
+
 returns : tie.Need-returns
 returns c body e =
     let b = c .before .before in
-    any-length (b .before .args .had) body e (row-said (b .before .args .kind) .len)
-    (asks-any _ (sym (ap (λ (r : KindRow). r .len) (b .row-of .ensures)) ∙ c .enum-told .given .1))
+    any-length (b .before .args .had) body e (row-said (b .before .args .kind) .len) (asks-any _ (asks b ∙ c .enum-told .given .1))
 
 cast-needed : tie.Need-cast-needed
 cast-needed c = search needs
@@ -31,15 +35,15 @@ returns-2 : tie.Need-returns-2
 returns-2 c body e =
     let b = c .before .before .before .before in
     let known = c .before .before .asked .given in
-    other-length (b .before .args .had) body e (row-said (b .before .args .kind) .len) (known .0 .0)
-    (asks-exactly _ _ (sym (ap (λ (r : KindRow). r .len) (b .row-of .ensures)) ∙ known .1)) (c .if1 .taken)
+    let other : b .before .args .had ≢ known .0 .0 = λ same. omega arith in
+    other-length (b .before .args .had) body e (row-said (b .before .args .kind) .len) (known .0 .0) (asks-exactly _ _ (asks b ∙ known .1)) other
 
 returns-3 : tie.Need-returns-3
 returns-3 c body e =
     let b = c .before .before .before .before in
     let known = c .before .before .asked .given in
-    same-length (b .before .args .had) body e (row-said (b .before .args .kind) .len) (known .0 .0)
-    (asks-exactly _ _ (sym (ap (λ (r : KindRow). r .len) (b .row-of .ensures)) ∙ known .1)) (c .if1 .left)
+    let same : b .before .args .had ≡ known .0 .0 = omega arith in
+    same-length (b .before .args .had) body e (row-said (b .before .args .kind) .len) (known .0 .0) (asks-exactly _ _ (asks b ∙ known .1)) same
 
 pub judged-length-spec : {M : Type 1} → statement M
 judged-length-spec =

@@ -1,9 +1,9 @@
--- `fields::option_refusal` meets its contract. Assumes nothing.
+-- `reading::option_refusal` meets its contract. Assumes nothing.
 use mathlib.Core.Path.{sym, ap}
 use Rattle.sd_option.specs.Reading.{option-refusal}
 use borrow.Author.Needs.{needs}
-use Rattle.sd_option.proofs.fields.option_refusal.Statement.{statement}
-use Rattle.sd_option.proofs.fields.option_refusal.Tie as tie
+use Rattle.sd_option.proofs.reading.option_refusal.Statement.{statement}
+use Rattle.sd_option.proofs.reading.option_refusal.Tie as tie
 
 enum-told : tie.Need-enum-told
 enum-told c = search needs

@@ -1,0 +1,5 @@
+pub mod SizeLaws
+pub mod EntryLoop
+pub mod ReadLaws
+pub mod HeaderLaws
+pub mod PartLaws

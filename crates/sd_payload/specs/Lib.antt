@@ -1,0 +1,3 @@
+pub mod Sized
+pub mod Reads
+pub mod Parts

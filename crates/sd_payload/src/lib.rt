@@ -1,0 +1,18 @@
+// A whole service discovery payload, and the message with its SD header: every refusal in document 01's order, the offsets of the options in a
+// lent table, and the parts of the payload as parts of the caller's bytes.
+mod entries;
+mod header;
+mod parts;
+mod reading;
+mod sizes;
+
+pub use parts::entries_part;
+pub use parts::options_part;
+pub use reading::PayloadAnswer;
+pub use reading::SdHeaderFlags;
+pub use reading::SdPayload;
+pub use reading::read_message;
+pub use reading::read_payload;
+pub use sizes::PartSizes;
+pub use sizes::SizesAnswer;
+pub use sizes::judge_sizes;
