@@ -1,12 +1,6 @@
 // Records out of a file that is open for reading.
-ghost use Prim.Native.Nat.{_<_};
+use big_endian::be16;
 ghost use Rattle.io.specs.Counts.{Counts};
-
-fn wide(x: u8) -> usize
-    ensures { λ r. ⌜ r < 256 ⌝ }
-{
-    x as usize
-}
 
 // The next record: how many bytes it has, which stand in front in the buffer; 0 where none comes that is whole and fits.
 pub fn next_record(fd: i32, buf: &mut [u8]) -> usize
@@ -14,7 +8,7 @@ pub fn next_record(fd: i32, buf: &mut [u8]) -> usize
 {
     let mut size = [0u8; 2];
     io::read_full(fd, &mut size);
-    let n = wide(size[0]) * 256 + wide(size[1]);
+    let n = be16(size[0], size[1]) as usize;
     if buf.len() < n {
         return 0;
     }

@@ -14,5 +14,6 @@ pub use record::input;
 pub use record::number;
 pub use record::recorded;
 pub use record::same;
+pub use sum::add_byte;
 pub use sum::add_bytes;
 pub use sum::add_number;

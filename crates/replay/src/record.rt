@@ -1,11 +1,12 @@
 // The parts of a record.
 ghost use mathlib.Core.Path.{_≡_};
-ghost use Prim.Native.Nat.{_+_, _*_, _<_};
+ghost use Prim.Native.Nat.{_<_};
 ghost use mathlib.Core.Bool.{_&&_};
 ghost use lib.Dec.{eqb};
 ghost use lib.ListN.{getD};
-ghost use Rattle.numbers.specs.Bytes.{at16, at32};
+ghost use Rattle.numbers.specs.Bytes.{at32};
 ghost use Rattle.replay.specs.Records.{word-of, value-of, check-of, answer-of, input-of, alike};
+use big_endian::be32;
 use refusal::Numbers;
 
 // The byte at a place.
@@ -18,20 +19,13 @@ pub fn byte(s: &[u8], place: usize) -> u8
     0
 }
 
-// The number of two bytes at a place.
-fn half(s: &[u8], place: usize) -> u32
-    requires { ⌜ place < 70000 ⌝ }
-    ensures { λ r. ⌜ (r ≡ at16 (now (s .entry)) place) × (r < 65536) ⌝ }
-{
-    byte(s, place) as u32 * 256 + byte(s, place + 1) as u32
-}
-
 // The number of four bytes at a place.
 pub fn number(s: &[u8], place: u16) -> u32
     ensures { λ r. ⌜ r ≡ at32 (now (s .entry)) place ⌝ }
 {
     let at = place as usize;
-    half(s, at) * 65536 + half(s, at + 2)
+    let low = at + 2;
+    be32(byte(s, at), byte(s, at + 1), byte(s, low), byte(s, low + 1))
 }
 
 // The word at a place, counted from the first argument.

@@ -4,7 +4,7 @@ ghost use Rattle.numbers.specs.Bytes.{be32};
 ghost use Rattle.replay.specs.Sums.{sum-byte, sum-bytes};
 
 // A sum with a byte more.
-fn add_byte(sum: u32, b: u8) -> u32
+pub fn add_byte(sum: u32, b: u8) -> u32
     ensures { λ r. ⌜ r ≡ sum-byte sum b ⌝ }
 {
     ((sum as u64 * 16777619 + b as u64 + 1) % 4294967291) as u32

@@ -1,5 +1,6 @@
 // Runs document 01's cases of joining segments ('Both sides of each line') through the public functions, and prints each on a line: what came,
 // the answer to it, and at the end the report. The file stdout holds what document 01 says.
+use big_endian::be32;
 use print::number;
 use print::refused;
 use print::text;
@@ -7,7 +8,7 @@ use tp_stream::TpAnswer;
 use tp_stream::TpStream;
 use tp_stream::TpTaken;
 ghost use mathlib.Core.Path.{_≡_};
-ghost use Prim.Native.Nat.{_<_, _≤_};
+ghost use Prim.Native.Nat.{_≤_};
 ghost use lib.ListN.{length};
 
 mod print; // print.rt: numbers and answers in words
@@ -78,18 +79,12 @@ fn comes(s: TpStream, buf: &mut [u8], piece: Piece) -> TpStream
     step.stream
 }
 
-fn wide(x: u8) -> usize
-    ensures { λ r. ⌜ r < 256 ⌝ }
-{
-    x as usize
-}
-
 // The length field of a report, or 0 where that has no whole header.
-fn length_field(report: &[u8]) -> usize {
+fn length_field(report: &[u8]) -> u32 {
     if report.len() < 16 {
         return 0;
     }
-    (wide(report[4]) * 256 + wide(report[5])) * 65536 + (wide(report[6]) * 256 + wide(report[7]))
+    be32(report[4], report[5], report[6], report[7])
 }
 
 // The message is taken; prints what it has, and ends the line.
@@ -101,7 +96,7 @@ fn taken(s: TpStream, buf: &mut [u8]) {
             text(b"complete, a report of ");
             number(report.len());
             text(b" bytes with length field ");
-            number(length_field(report));
+            number(length_field(report) as usize);
         }
         TpTaken::Refused(refusal) => {
             text(b"taking: ");

@@ -1,7 +1,6 @@
 -- `replay::file::next_record` meets its contract: the part that is read into lies within the buffer, and `io::count` counts within it.
 -- Assumes nothing.
 use mathlib.Core.Path.{sym}
-use Prim.Native.Nat.{_+_, _*_}
 use native.Mathlib.Omega.{arith}
 use lib.Seq.{length-take-le}
 use borrow.Author.Needs.{needs}
@@ -14,23 +13,17 @@ slice-aggregate-read-full c = search needs
 read-full-requires : tie.Need-read-full-requires
 read-full-requires c κs = search needs
 
-array-read-wide : tie.Need-array-read-wide
-array-read-wide c = search needs
+array-read-be16 : tie.Need-array-read-be16
+array-read-be16 c = search needs
 
-wide-requires : tie.Need-wide-requires
-wide-requires c κs = search needs
+array-read-be16-2 : tie.Need-array-read-be16-2
+array-read-be16-2 c = search needs
 
-mul-n : tie.Need-mul-n
-mul-n c = search needs
+be16-requires : tie.Need-be16-requires
+be16-requires c κs = search needs
 
-array-read-wide-2 : tie.Need-array-read-wide-2
-array-read-wide-2 c = search needs
-
-wide-requires-2 : tie.Need-wide-requires-2
-wide-requires-2 c κs = search needs
-
-add-n : tie.Need-add-n
-add-n c = search needs
+cast-n : tie.Need-cast-n
+cast-n c = search needs
 
 returns : tie.Need-returns
 returns c = search needs
@@ -40,8 +33,8 @@ slice-relend-prefix-read-full c = search needs
 
 slice-aggregate-read-full-2 : tie.Need-slice-aggregate-read-full-2
 slice-aggregate-read-full-2 c =
-    let n = c .before .before .before .wide .result * 256 + c .before .before .wide2 .result in
-    sym (length-take-le n (c .before .before .before .before .before .before .before .before .args .buf .now) (omega arith))
+    let buf = c .before .before .before .before .before .before .before .args .buf .now in
+    sym (length-take-le (c .before .before .be16 .result) buf (omega arith))
 
 read-full-requires-2 : tie.Need-read-full-requires-2
 read-full-requires-2 c κs = search needs
@@ -70,12 +63,10 @@ next-record-spec =
     (tie.spec
     slice-aggregate-read-full
     read-full-requires
-    array-read-wide
-    wide-requires
-    mul-n
-    array-read-wide-2
-    wide-requires-2
-    add-n
+    array-read-be16
+    array-read-be16-2
+    be16-requires
+    cast-n
     returns
     slice-relend-prefix-read-full
     slice-aggregate-read-full-2
