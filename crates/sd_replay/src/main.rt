@@ -1,0 +1,87 @@
+// Replays what the Rust crate said to payloads, messages, options parts, entries, options and strings (the file that the first argument names;
+// compare/FORMAT.md), and prints how many records agree, by what was read and by answer, and the first that does not.
+use print::line;
+use print::text;
+
+mod answer; // answer.rt: answers as numbers, and in a sum
+mod entries; // entries.rt: entries in a sum
+mod options; // options.rt: options, runs and tables in a sum
+mod print; // print.rt: text and numbers on standard output
+mod step; // step.rt: one record
+mod tally; // tally.rt: what agreed, counted and printed
+
+// The next record of the file: whether all agrees; it is counted if so.
+fn next_agrees(fd: i32, record: &mut [u8], table: &mut [u16], counts: &mut [u32]) -> bool {
+    let n = replay::next_record(fd, record);
+    let bytes = &record[..n];
+    let agrees = step::agrees(bytes, table);
+    if agrees {
+        tally::add(bytes, counts);
+    }
+    agrees
+}
+
+// The first that does not agree: the one that there was, else this one, unless it agrees.
+fn earlier(first: u32, agrees: bool, i: u32) -> u32 {
+    if agrees {
+        return first;
+    }
+    if first == 0 {
+        return i;
+    }
+    first
+}
+
+// All records of the file; answers which is the first that does not agree, counted from 1, or 0.
+fn replay_all(
+    fd: i32,
+    total: u32,
+    record: &mut [u8],
+    table: &mut [u16],
+    counts: &mut [u32],
+) -> u32 {
+    let mut first: u32 = 0;
+    let mut i: u32 = 0;
+    while i < total {
+        let agrees = next_agrees(fd, record, table, counts);
+        i += 1;
+        first = earlier(first, agrees, i);
+    }
+    first
+}
+
+// Replays a file that is open, and prints what came of it.
+fn report(fd: i32) {
+    let mut name = [0u8; 8];
+    io::read_full(fd, &mut name);
+    if !check::same(&name, b"VIADSD01") {
+        text(b"not a list of recorded payloads\n");
+        return;
+    }
+    let mut head = [0u8; 8];
+    io::read_full(fd, &mut head);
+    let total = replay::number(&head, 0);
+    line(b"records", total);
+    let mut record = [0u8; 2048];
+    let mut table = [0u16; sd_index::SLOTS];
+    let mut counts = [0u32; tally::PLACES];
+    let first = replay_all(fd, total, &mut record, &mut table, &mut counts);
+    tally::print(&counts);
+    if first == 0 {
+        text(b"none that does not\n");
+    } else {
+        line(b"the first that does not is record", first);
+    }
+}
+
+fn main() {
+    let mut path = io::buffer();
+    let n = os::arg(1, &mut path);
+    let fd = os::open_read(&path[..n]);
+    if fd < 0 {
+        os::fail(&path[..n]);
+        return;
+    }
+    report(fd);
+    libc::close(fd);
+}

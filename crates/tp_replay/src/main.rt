@@ -1,0 +1,104 @@
+// Replays what the Rust crate said to sequences of segments (the file that the first argument names; compare/FORMAT.md), and prints the first
+// record that does not agree, and how many do, by their answers. After each step all is compared: the answer, the ranges, the end, the report.
+use print::line;
+use print::text;
+use tp_stream::TpStream;
+
+mod print; // print.rt: text and numbers on standard output
+mod state; // state.rt: whether a stream is as recorded
+mod step; // step.rt: one record
+mod tally; // tally.rt: what agreed, counted and printed
+
+// What a record left: whether all agreed, and the stream.
+struct Turn {
+    agrees: bool,
+    stream: TpStream,
+}
+
+// The next record of the file, replayed, and counted where it agrees.
+fn next_turn(
+    fd: i32,
+    record: &mut [u8],
+    s: TpStream,
+    buffer: &mut [u8],
+    counts: &mut [u32],
+) -> Turn {
+    let n = replay::next_record(fd, record);
+    let bytes = &record[..n];
+    let stream = step::begun(bytes, s);
+    // 16 plus the limit of the buffer's bytes are lent.
+    let lent = io::count((16 + stream.limit as usize) as isize, buffer);
+    let turn = step::replayed(bytes, stream, &mut buffer[..lent]);
+    if turn.agrees {
+        tally::add(bytes, counts);
+    }
+    turn
+}
+
+// The first that does not agree: the one that there was, else this one, unless it agrees.
+fn earlier(first: u32, agrees: bool, i: u32) -> u32 {
+    if agrees {
+        return first;
+    }
+    if first == 0 {
+        return i;
+    }
+    first
+}
+
+// All records of the file; answers which is the first that does not agree, counted from 1, or 0.
+fn replay_all(
+    fd: i32,
+    total: u32,
+    record: &mut [u8],
+    buffer: &mut [u8],
+    counts: &mut [u32],
+) -> u32 {
+    let begun = tp_stream::begin(0);
+    let mut stream = begun.stream;
+    let mut first: u32 = 0;
+    let mut i: u32 = 0;
+    while i < total {
+        let done = next_turn(fd, record, stream, buffer, counts);
+        stream = done.stream;
+        i += 1;
+        first = earlier(first, done.agrees, i);
+    }
+    first
+}
+
+// Replays a file that is open, and prints what came of it.
+fn report(fd: i32) {
+    let mut name = [0u8; 8];
+    io::read_full(fd, &mut name);
+    if !check::same(&name, b"VIADTP01") {
+        text(b"not a list of recorded segments\n");
+        return;
+    }
+    let mut head = [0u8; 8];
+    io::read_full(fd, &mut head);
+    let total = replay::number(&head, 0);
+    line(b"records", total);
+    let mut record = [0u8; 2048];
+    let mut buffer = [0u8; 4112];
+    let mut counts = [0u32; tally::PLACES];
+    let first = replay_all(fd, total, &mut record, &mut buffer, &mut counts);
+    tally::print(&counts);
+    if first == 0 {
+        text(b"none that does not\n");
+    } else {
+        line(b"the first that does not is record", first);
+    }
+}
+
+fn main() {
+    let mut path = io::buffer();
+    let n = os::arg(1, &mut path);
+    let fd = os::open_read(&path[..n]);
+    if fd < 0 {
+        os::fail(&path[..n]);
+        return;
+    }
+    report(fd);
+    libc::close(fd);
+}
