@@ -4,3 +4,4 @@ pub mod StreamLaws
 pub mod TpLaws
 pub mod ToldLaws
 pub mod FieldLaws
+pub mod OneOutcome
