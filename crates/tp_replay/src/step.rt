@@ -58,7 +58,7 @@ fn done(record: &[u8], s: TpStream, buffer: &mut [u8]) -> Turn {
             }
         }
         CLEAR => Turn {
-            agrees: true,
+            agrees: same(recorded(record), numbers_of(TpAnswer::Accepted)),
             stream: tp_stream::clear(s),
         },
         _ => Turn {
