@@ -1,5 +1,5 @@
 -- Laws of the streams that words hold: which words hold a stream, and a stream put into words. Assumes nothing.
-use Prim.Native.Nat.{ℕ, _≤_, _<_}
+use Prim.Native.Nat.{ℕ, _*_, _≤_, _<_}
 use mathlib.Core.Path.{_≡_, refl, sym, ap, ap₂, _∙_}
 use mathlib.Core.Bool.{Bool, _||_, cond}
 use mathlib.Core.List.{List, _∷_, _++_}
@@ -67,5 +67,5 @@ module _ (ws : List ℕ) (s : TpStream) where
       f ∙ ap₂ {C = List ℕ} (λ (x y : ℕ). s .limit ∷ s .count ∷ x ∷ y ∷ drop 4 ws) p q in
       a
       ∙ ap (λ (l : List ℕ). take 4 l ++ (flat (s .ranges) ++ drop size l)) opened
-      ∙ ap (λ (l : List ℕ). s .limit ∷ s .count ∷ known (s .end) ∷ previous (s .end) ∷ (flat (s .ranges) ++ l)) (drop-drop 64 4 ws)
+      ∙ ap (λ (l : List ℕ). s .limit ∷ s .count ∷ known (s .end) ∷ previous (s .end) ∷ (flat (s .ranges) ++ l)) (drop-drop (2 * most) 4 ws)
       ∙ put-all h

@@ -13,7 +13,7 @@ ghost use Rattle.tp_stream.specs.Stream.{stored, blank};
 ghost use Rattle.hub.specs.Words.{size, end-of, outside as outsideOf, held-in, stream-of, known, flat, words-of, put as putOf};
 
 // As many words as a state has.
-pub const WORDS: usize = 68;
+pub const WORDS: usize = 4 + 2 * MAX_RANGES;
 
 // The end that two words tell.
 fn end_of(known: u32, end: u32) -> TpEnd
