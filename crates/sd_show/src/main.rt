@@ -14,10 +14,21 @@ mod words; // words.rt: a refusal in words
 // More bytes than a message of service discovery has, as hex text with a space between any two digits: what is longer is none.
 const ROOM: usize = 8192;
 
+// Says so where there are more bytes than can be; the answer to them follows.
+fn too_long(most: usize, n: usize) {
+    if most < n {
+        named(b"longer than it can be: bytes at most ", most);
+        named(b", bytes that came ", n);
+        text(b"\n");
+    }
+}
+
 fn show(message: bool, bytes: &[u8]) {
     if message {
+        too_long(1416, bytes.len());
         payload::show_message(bytes);
     } else {
+        too_long(1400, bytes.len());
         payload::show(bytes);
     }
 }
