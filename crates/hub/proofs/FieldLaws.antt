@@ -5,10 +5,8 @@ use mathlib.Core.Bool.{cond}
 use mathlib.Core.List.{List, []}
 use Rattle.numbers.specs.Answers as paper
 use Rattle.sd_format.specs.Fields.{asked, of-address, of-load-balancing, of-configuration, address-bytes, protocol, port, priority, weight, string}
-use Rattle.sd_option.specs.Kinds.{row-said, encoded}
 use Rattle.sd_option.specs.Reading.{head-said}
 use Rattle.sd_option.specs.Fields.{size-asked}
-use Rattle.sd_option.specs.declared.kinds.KindRow.{KindRow}
 use Rattle.sd_option.specs.declared.reading.OptionHead.{OptionHead}
 use Rattle.sd_entry.specs.Said.{saidHead, saidGroup}
 use Rattle.sd_entry.specs.declared.EntryHead.{EntryHead}
@@ -66,8 +64,7 @@ module _ {A : Type 0} (f : paper.Answer A → ℕ) where
 
 -- an option: each field as it was asked for
 pub option-made : (s : List ℕ) (h : OptionHead)
-    {w : KindRow} → w ≡ encoded (row-said (h .kind))
-    → {a : Answer} → a ≡ row 0 []
+    {a : Answer} → a ≡ row 0 []
     → {b : ℕ} → b ≡ cond (h .discardable) 1 0
     → {p : paper.Answer ℕ} → p ≡ asked (of-load-balancing priority) s → {p′ : ℕ} → p′ ≡ or-zero p
     → {v : paper.Answer ℕ} → v ≡ asked (of-load-balancing weight) s → {v′ : ℕ} → v′ ≡ or-zero v
@@ -77,7 +74,7 @@ pub option-made : (s : List ℕ) (h : OptionHead)
     → {z : paper.Answer ℕ} → z ≡ size-asked (of-configuration string) s → {z′ : ℕ} → z′ ≡ place-of z → {z″ : ℕ} → z″ ≡ or-zero z
     → record {
       answer = a;
-      code = w .code;
+      code = h .code;
       size = h .size;
       discardable = b;
       priority = p′;
@@ -90,10 +87,10 @@ pub option-made : (s : List ℕ) (h : OptionHead)
       «string_len» = z″;
     }
     ≡ fields-told s (head-said h)
-option-made s h ew ea eb ep ep′ ev ev′ ed ed′ ed″ et et′ eo eo′ ez ez′ ez″ =
+option-made s h ea eb ep ep′ ev ev′ ed ed′ ed″ et et′ eo eo′ ez ez′ ez″ =
     λ i. record {
       answer = ea i;
-      code = ew i .code;
+      code = h .code;
       size = h .size;
       discardable = eb i;
       priority = field or-zero ep ep′ i;

@@ -1,15 +1,13 @@
 -- Answers as numbers, from the promises of the crates that answer. Assumes nothing.
-use Prim.Native.Nat.{ℕ, _+_}
+use Prim.Native.Nat.{ℕ}
 use mathlib.Core.Path.{_≡_, refl, ap, _∙_}
-use mathlib.Core.List.{List, [], _∷_}
-use lib.ListN.{length}
+use mathlib.Core.List.{List}
 use Rattle.numbers.specs.Answers.{given}
 use Rattle.numbers.specs.Answers as paper
 use Rattle.sd_format.specs.Frames.{Frame, read-option, read-index}
 use Rattle.sd_format.specs.Payload.{Reading}
 use Rattle.sd_option.specs.Reading.{head-of, option-said}
 use Rattle.sd_option.specs.declared.reading.OptionAnswer.{OptionAnswer}
-use Rattle.sd_option.proofs.KindLaws.{row-code}
 use Rattle.sd_index.specs.Found.{located}
 use Rattle.sd_index.specs.Indexed.{Indexed}
 use Rattle.sd_index.specs.Said.{index-said}
@@ -25,12 +23,12 @@ use Rattle.sd_payload.specs.Reads.{PayloadRead, payload-said}
 -- what is told of an option has its type, where it starts and the bytes that it takes
 pub located-told : (at : ℕ) (x : paper.Answer Frame) → told located-values (given (located at) x) ≡ told (option-values at) x
 unfolding given
-located-told at (paper.accepted f) = ap (λ (code : ℕ). told (λ (vs : List ℕ). vs) (paper.accepted (code ∷ at ∷ (3 + length (f .body)) ∷ []))) (row-code (f .type))
+located-told at (paper.accepted f) = refl
 located-told at (paper.refused r) = refl
 
 pub headed-told : (at : ℕ) (x : paper.Answer Frame) → told (head-values at) (given head-of x) ≡ told (option-values at) x
 unfolding given
-headed-told at (paper.accepted f) = ap (λ (code : ℕ). told (λ (vs : List ℕ). vs) (paper.accepted (code ∷ at ∷ (3 + length (f .body)) ∷ []))) (row-code (f .type))
+headed-told at (paper.accepted f) = refl
 headed-told at (paper.refused r) = refl
 
 -- a lent table

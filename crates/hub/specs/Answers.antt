@@ -33,7 +33,7 @@ one-value n = n ∷ []
 
 -- an option that starts at `at`: its type, where it starts, and how many bytes it takes
 abbrev pub head-values : (at : ℕ) → Head → List ℕ
-head-values at h = h .row .code ∷ at ∷ h .size ∷ []
+head-values at h = h .type ∷ at ∷ h .size ∷ []
 
 abbrev pub located-values : Located → List ℕ
 located-values l = head-values (l .offset) (l .head)

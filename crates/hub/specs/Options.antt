@@ -36,7 +36,7 @@ abbrev pub fields-told : List ℕ → Head → Option
 fields-told s h =
     record {
       answer = row 0 [];
-      code = h .row .code;
+      code = h .type;
       size = h .size;
       discardable = cond (h .discardable) 1 0;
       priority = or-zero (asked (of-load-balancing priority) s);

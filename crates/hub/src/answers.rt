@@ -3,7 +3,6 @@ use config_string::StringAnswer;
 use refusal::Refusal;
 use sd_index::FoundAnswer;
 use sd_index::IndexAnswer;
-use sd_option::kinds::row_of;
 use sd_option::reading::OptionAnswer;
 use sd_option::reading::OptionHead;
 use tp_stream::TpAnswer;
@@ -114,9 +113,7 @@ pub(crate) fn index_answer(answer: IndexAnswer) -> Answer
 pub(crate) fn head_answer(head: OptionHead, at: usize) -> Answer
     ensures { λ r. ⌜ r ≡ row 0 (head-values at (head-said head)) ⌝ }
 {
-    let kind = head.kind;
-    let row = row_of(kind);
-    three(0, row.code as u64, at as u64, head.size as u64)
+    three(0, head.code as u64, at as u64, head.size as u64)
 }
 
 // The answer of reading the option at `at`.

@@ -23,7 +23,6 @@ use sd_option::fields::priority;
 use sd_option::fields::protocol;
 use sd_option::fields::string_size;
 use sd_option::fields::weight;
-use sd_option::kinds::row_of;
 use sd_option::reading::OptionAnswer;
 use sd_option::reading::OptionHead;
 use sd_option::reading::read_option;
@@ -177,13 +176,11 @@ fn no_option(answer: Answer) -> Option
 fn fields_of(s: &[u8], head: OptionHead) -> Option
     ensures { λ r. ⌜ r ≡ fields-told (now (s .entry)) (head-said head) ⌝ }
 {
-    let kind = head.kind;
-    let row = row_of(kind);
     let address = address_size(s);
     let string = string_size(s);
     Option {
         answer: none(0),
-        code: row.code as u64,
+        code: head.code as u64,
         size: head.size as u64,
         discardable: bit(head.discardable),
         priority: word_or_zero(priority(s)),

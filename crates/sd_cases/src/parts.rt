@@ -12,6 +12,7 @@ use sd_index::RunCursor;
 use sd_option::fields::ByteAnswer;
 use sd_option::fields::WordAnswer;
 use sd_option::kinds::OptionKind;
+use sd_option::kinds::kind_of;
 
 // The head of an entry.
 fn head(h: EntryHead) {
@@ -130,9 +131,8 @@ pub(crate) fn found(options: &[u8], answer: FoundAnswer) {
         FoundAnswer::Good(f) => {
             let offset = f.offset;
             let h = f.head;
-            let k = h.kind;
             let s = sd_index::option_at(options, offset);
-            kind(k);
+            kind(kind_of(h.code));
             address(sd_option::fields::address(s));
             protocol(sd_option::fields::protocol(s));
             port(sd_option::fields::port(s));

@@ -3,7 +3,7 @@ use mathlib.Core.Bool.{Bool, true, not, _||_}
 use Rattle.numbers.specs.Refusals.{unknown-option}
 use Rattle.numbers.specs.Answers.{Verdict, pass, refuse_when_else_}
 use Rattle.sd_format.specs.Settings.{Settings}
-use Rattle.sd_format.specs.Kinds.{Kind, configuration, load-balancing, address, unknown}
+use Rattle.sd_format.specs.Kinds.{Kind, configuration, load-balancing, address, unknown, kind-of}
 use Rattle.sd_option.specs.Reading.{Head}
 
 abbrev pub may : Settings → Kind → Bool → Bool
@@ -13,4 +13,4 @@ may g load-balancing discardable = true
 may g (address family role) discardable = true
 
 unfoldable pub permit-told : Settings → Head → Verdict
-permit-told g h = refuse unknown-option (h .row .code) when not (may g (h .row .kind) (h .discardable)) else pass
+permit-told g h = refuse unknown-option (h .type) when not (may g (kind-of (h .type)) (h .discardable)) else pass

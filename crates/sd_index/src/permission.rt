@@ -2,6 +2,7 @@
 // not counts.
 use crate::Settings;
 use sd_option::kinds::OptionKind;
+use sd_option::kinds::kind_of;
 use sd_option::reading::OptionHead;
 ghost use mathlib.Core.Path.{_≡_};
 ghost use Rattle.sd_option.specs.Reading.{head-said};
@@ -18,8 +19,8 @@ pub enum Permission {
 pub(crate) fn permission_of(settings: Settings, head: OptionHead) -> Permission
     ensures { λ r. ⌜ permission-said r ≡ permit-told (settings-said settings) (head-said head) ⌝ }
 {
-    let kind = head.kind;
-    let OptionKind::Unknown(option_type) = kind else {
+    let kind = kind_of(head.code);
+    let OptionKind::Unknown(_) = kind else {
         return Permission::Passed;
     };
     if settings.discard_unknown_option {
@@ -28,7 +29,7 @@ pub(crate) fn permission_of(settings: Settings, head: OptionHead) -> Permission
     if head.discardable {
         return Permission::Passed;
     }
-    Permission::Refused(option_type)
+    Permission::Refused(head.code)
 }
 
 // The earlier refusal, if there is one.

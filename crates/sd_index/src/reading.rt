@@ -10,7 +10,7 @@ use refusal::Refusal;
 use sd_option::Offset;
 use sd_option::reading::OptionAnswer;
 use sd_option::reading::option_refusal;
-use sd_option::reading::read_option;
+use sd_option::reading::read_option_unscanned;
 ghost use mathlib.Core.Path.{_≡_};
 ghost use Prim.Native.Nat.{_≤_};
 ghost use lib.ListN.{length};
@@ -50,7 +50,8 @@ fn sweep(settings: Settings, options: &[u8], table: &mut [u16]) -> Swept
     let mut count: usize = 0;
     let mut permission = Permission::Passed;
     while at < options.len() {
-        let answer = read_option(&options[at..]);
+        let rest = &options[at..];
+        let answer = read_option_unscanned(rest).scanned(rest);
         let OptionAnswer::Good(head) = answer else {
             return Swept::Refused(option_refusal(answer));
         };

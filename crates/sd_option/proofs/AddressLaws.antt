@@ -29,7 +29,7 @@ use Rattle.sd_option.specs.declared.fields.SizeAnswer.the-variants as si
 use Rattle.sd_option.specs.Fields.{size-said, size-refusal, size-asked}
 use Rattle.sd_option.proofs.KindLaws.{tag}
 use Rattle.sd_option.proofs.ReadingLaws.{Found, front, body-at, front-length, read-stands, given-accepted, given-refused}
-use Rattle.sd_option.proofs.AskedLaws.{body-byte, body-word, exact-length, asked-here}
+use Rattle.sd_option.proofs.AskedLaws.{body-byte, body-word, exact-length, row-here, asked-here}
 
 -- ---- kinds with an address
 
@@ -119,18 +119,18 @@ address-room s n fam within fits has = sym (front-length s n within) ∙ exact-l
 address-width : (s : List ℕ) (n : ℕ) (fam : Family) → 3 + n ≤ length s → n ≡ 5 + width fam → length (address-bytes fam (body-at s n)) ≡ width fam
 address-width s n fam within e = length-take-le (width fam) (drop 1 (body-at s n)) (rw (length-drop, front-length s n within) (omega arith))
 
-module _ (s : List ℕ) (hd : OptionHead) (t : Found unscanned s (head-said hd)) where
-  pub address-size : (fam : Family) → family-of (row-said (hd .kind) .kind) ≡ some fam
+module _ (s : List ℕ) (hd : OptionHead) (k : OptionKind) (named : row-said k ≡ row-of (hd .code)) (t : Found unscanned s (head-said hd)) where
+  pub address-size : (fam : Family) → family-of (row-said k .kind) ≡ some fam
       → accepted (width fam) ≡ size-asked (of-address address-bytes) s
   unfolding given
   address-size fam has =
       let within : 3 + (hd .size - 3) ≤ length s = omega arith in
-      let room = address-room s (hd .size - 3) fam within (t .fits) (rw (t .row) at has) in
-      rw (asked-here (of-address address-bytes) s hd t, address-has address-bytes (row-said (hd .kind) .kind) fam (body-at s (hd .size - 3)) has, address-width s (hd .size - 3) fam within room)
+      let room = address-room s (hd .size - 3) fam within (t .fits) (rw (row-here s hd k named t) at has) in
+      rw (asked-here s hd k named t (of-address address-bytes), address-has address-bytes (row-said k .kind) fam (body-at s (hd .size - 3)) has, address-width s (hd .size - 3) fam within room)
 
-  pub no-address : family-of (row-said (hd .kind) .kind) ≡ none → refused nothing-there ≡ size-asked (of-address address-bytes) s
+  pub no-address : family-of (row-said k .kind) ≡ none → refused nothing-there ≡ size-asked (of-address address-bytes) s
   unfolding given
-  no-address lacks = rw (asked-here (of-address address-bytes) s hd t, address-lacks address-bytes (row-said (hd .kind) .kind) (body-at s (hd .size - 3)) lacks)
+  no-address lacks = rw (asked-here s hd k named t (of-address address-bytes), address-lacks address-bytes (row-said k .kind) (body-at s (hd .size - 3)) lacks)
 
 -- what a width that was told says of the slice
 pub record Addressed (s : List ℕ) (w : ℕ) : Type 0 where

@@ -1,6 +1,6 @@
 -- A field asked of the option in front of a slice: of a refused option and of one that was read; where the bytes after a type stand.
 -- Assumes nothing.
-use mathlib.Core.Path.{_≡_, ap, _∙_}
+use mathlib.Core.Path.{_≡_, sym, ap, _∙_}
 use mathlib.Core.List.{List}
 use Prim.Native.Nat.{ℕ, _+_, _*_, _-_, _<_}
 use native.Mathlib.Omega.{arith}
@@ -12,11 +12,12 @@ use Rattle.numbers.specs.Refusals.{Refusal}
 use Rattle.numbers.specs.Answers.{Answer, refused, pass, _>>=_, given}
 use Rattle.numbers.specs.Bytes.{at16}
 use Rattle.numbers.proofs.AnswerLaws.{refuse-pass}
-use Rattle.sd_format.specs.Kinds.{Kind, Length, exactly, judge-length, unscanned}
+use Rattle.sd_format.specs.Kinds.{Kind, Row, row-of, kind-of, Length, exactly, judge-length, unscanned}
 use Rattle.sd_format.specs.Frames.{one-option}
 use Rattle.sd_format.specs.Fields.{asked}
 use Rattle.refusal.specs.declared.Refusal as code
 use Rattle.refusal.specs.Said.{said}
+use Rattle.sd_option.specs.declared.kinds.OptionKind.{OptionKind}
 use Rattle.sd_option.specs.declared.reading.OptionHead.{OptionHead}
 use Rattle.sd_option.specs.declared.reading.OptionAnswer.{OptionAnswer}
 use Rattle.sd_option.specs.declared.reading.OptionAnswer.the-variants as option
@@ -33,9 +34,9 @@ module _ {A : Type 0} (field : Kind → List ℕ → Answer A) (s : List ℕ) wh
   unfolding asked _>>=_
   asked-of-refused a q r told e w = rw (not-found unscanned s a told q e, w, e)
 
-  pub asked-of-found : (h : Head) → Found unscanned s h → asked field s ≡ field (h .row .kind) (body-at s (h .size - 3))
+  pub asked-of-found : (h : Head) → Found unscanned s h → asked field s ≡ field (kind-of (h .type)) (body-at s (h .size - 3))
   unfolding asked _>>=_
-  asked-of-found h t = rw (t .reads, t .row)
+  asked-of-found h t = rw (t .reads, t .type)
 
 -- ---- the bytes of a body, where they stand in the slice
 
@@ -62,7 +63,10 @@ pub size-of-refused : (field : Kind → List ℕ → Answer (List ℕ)) (s : Lis
 unfolding given
 size-of-refused field s a q r told e w = rw (asked-of-refused field s a q r told e w)
 
--- where the code has the option's head
-pub asked-here : {A : Type 0} (field : Kind → List ℕ → Answer A) (s : List ℕ) (hd : OptionHead) → Found unscanned s (head-said hd)
-    → asked field s ≡ field (row-said (hd .kind) .kind) (body-at s (hd .size - 3))
-asked-here field s hd t = asked-of-found field s (head-said hd) t
+-- where the code has the option's head, and the kind that its type has
+module _ (s : List ℕ) (hd : OptionHead) (k : OptionKind) (named : row-said k ≡ row-of (hd .code)) (t : Found unscanned s (head-said hd)) where
+  pub row-here : row-said k ≡ row-of (getD s 2 0)
+  row-here = named ∙ ap row-of (t .type)
+
+  pub asked-here : {A : Type 0} (field : Kind → List ℕ → Answer A) → asked field s ≡ field (row-said k .kind) (body-at s (hd .size - 3))
+  asked-here field = asked-of-found field s (head-said hd) t ∙ ap (λ (w : Row). field (w .kind) (body-at s (hd .size - 3))) (sym named)

@@ -23,7 +23,7 @@ use Rattle.sd_option.specs.Reading.{head-of, head-said, option-said, opt
 use Rattle.sd_option.specs.Fields.{size-asked, of-unknown, unknown-type}
 use Rattle.sd_option.proofs.KindLaws.{row-code, is-balancing}
 use Rattle.sd_option.proofs.ReadingLaws.{Found, body-at, front-length, not-found}
-use Rattle.sd_option.proofs.AskedLaws.{body-word, exact-length, asked-here}
+use Rattle.sd_option.proofs.AskedLaws.{body-word, exact-length, row-here, asked-here}
 
 -- ---- a field of one kind only, from where the code has the option's head
 
@@ -55,12 +55,12 @@ balancing-row : (k : OptionKind) → k ≡ kind.LoadBalancing → row-said k .le
 unfolding row-of row-in kinds
 balancing-row k e = rw e
 
-module _ (s : List ℕ) (hd : OptionHead) (t : Found unscanned s (head-said hd)) where
+module _ (s : List ℕ) (hd : OptionHead) (k : OptionKind) (named : row-said k ≡ row-of (hd .code)) (t : Found unscanned s (head-said hd)) where
   abbrev body : List ℕ
   body = body-at s (hd .size - 3)
 
   abbrev kind-here : Kind
-  kind-here = row-said (hd .kind) .kind
+  kind-here = row-said k .kind
 
   -- the bytes after the first
   rest-length : length (string body) ≡ hd .size - 4
@@ -68,48 +68,48 @@ module _ (s : List ℕ) (hd : OptionHead) (t : Found unscanned s (head-said hd))
 
   pub string-size : kind-here ≡ configuration → accepted (hd .size - 4) ≡ size-asked (of-configuration string) s
   unfolding given of-configuration
-  string-size is = rw (asked-here (of-configuration string) s hd t, is, rest-length)
+  string-size is = rw (asked-here s hd k named t (of-configuration string), is, rest-length)
 
   pub no-string-size : kind-here ≢ configuration → refused nothing-there ≡ size-asked (of-configuration string) s
   unfolding given
-  no-string-size other = rw (asked-here (of-configuration string) s hd t, string-lacks string body kind-here other)
+  no-string-size other = rw (asked-here s hd k named t (of-configuration string), string-lacks string body kind-here other)
 
   pub unknown-size : kind-here ≡ unknown → accepted (hd .size - 4) ≡ size-asked (of-unknown string) s
   unfolding given of-unknown
-  unknown-size is = rw (asked-here (of-unknown string) s hd t, is, rest-length)
+  unknown-size is = rw (asked-here s hd k named t (of-unknown string), is, rest-length)
 
   pub no-unknown-size : kind-here ≢ unknown → refused nothing-there ≡ size-asked (of-unknown string) s
   unfolding given
-  no-unknown-size other = rw (asked-here (of-unknown string) s hd t, unknown-lacks string body kind-here other)
+  no-unknown-size other = rw (asked-here s hd k named t (of-unknown string), unknown-lacks string body kind-here other)
 
   -- a number of a load balancing option
-  pub balancing-size : hd .kind ≡ kind.LoadBalancing → hd .size ≡ 8
+  pub balancing-size : k ≡ kind.LoadBalancing → hd .size ≡ 8
   balancing-size is =
-      let n : length body ≡ 5 = exact-length (row-of (getD s 2 0) .len) 5 body (t .fits) (ap (λ (w : Row). w .len) (sym (t .row)) ∙ balancing-row (hd .kind) is) in
+      let n : length body ≡ 5 = exact-length (row-of (getD s 2 0) .len) 5 body (t .fits) (ap (λ (w : Row). w .len) (sym (row-here s hd k named t)) ∙ balancing-row k is) in
       let m : length body ≡ hd .size - 3 = front-length s (hd .size - 3) (omega arith) in
       omega arith
 
-  pub balancing-told : (i n : ℕ) → i ≤ 3 → hd .kind ≡ kind.LoadBalancing → n ≡ getD s (3 + i) 0 * 256 + getD s (4 + i) 0
+  pub balancing-told : (i n : ℕ) → i ≤ 3 → k ≡ kind.LoadBalancing → n ≡ getD s (3 + i) 0 * 256 + getD s (4 + i) 0
       → accepted n ≡ asked (of-load-balancing (λ (b : List ℕ). at16 b i)) s
   unfolding of-load-balancing
   balancing-told i n h is e =
       let z = balancing-size is in
-      let k : kind-here ≡ load-balancing = is-balancing (hd .kind) is in
+      let same : kind-here ≡ load-balancing = is-balancing k is in
       let w : at16 body i ≡ n = body-word s (hd .size - 3) i (omega arith) ∙ sym e in
-      rw (asked-here (of-load-balancing (λ (b : List ℕ). at16 b i)) s hd t, k, w)
+      rw (asked-here s hd k named t (of-load-balancing (λ (b : List ℕ). at16 b i)), same, w)
 
   pub no-balancing-told : (i : ℕ) → kind-here ≢ load-balancing → refused nothing-there ≡ asked (of-load-balancing (λ (b : List ℕ). at16 b i)) s
-  no-balancing-told i other = rw (asked-here (of-load-balancing (λ (b : List ℕ). at16 b i)) s hd t, balancing-lacks (λ (b : List ℕ). at16 b i) body kind-here other)
+  no-balancing-told i other = rw (asked-here s hd k named t (of-load-balancing (λ (b : List ℕ). at16 b i)), balancing-lacks (λ (b : List ℕ). at16 b i) body kind-here other)
 
   -- an unknown option's type
   unknown-here : unknown-type s ≡ of-unknown (λ (b : List ℕ). getD s 2 0) kind-here body
   unfolding unknown-type _>>=_
-  unknown-here = rw (t .reads) (ap (λ (w : Row). of-unknown (λ (b : List ℕ). getD s 2 0) (w .kind) body) (sym (t .row)))
+  unknown-here = rw (t .reads) (ap (λ (w : Row). of-unknown (λ (b : List ℕ). getD s 2 0) (w .kind) body) (sym (row-here s hd k named t)))
 
-  pub type-told : (n : ℕ) → hd .kind ≡ kind.Unknown n → accepted n ≡ unknown-type s
+  pub type-told : (n : ℕ) → k ≡ kind.Unknown n → accepted n ≡ unknown-type s
   unfolding of-unknown
   type-told n is =
-      let c : n ≡ getD s 2 0 = ap (λ (k : OptionKind). row-said k .code) (sym is) ∙ ap (λ (w : Row). w .code) (t .row) ∙ row-code (getD s 2 0) in
+      let c : n ≡ getD s 2 0 = ap (λ (k : OptionKind). row-said k .code) (sym is) ∙ ap (λ (w : Row). w .code) (row-here s hd k named t) ∙ row-code (getD s 2 0) in
       rw (unknown-here, is, c)
 
   pub no-type-told : kind-here ≢ unknown → refused nothing-there ≡ unknown-type s

@@ -2,7 +2,6 @@
 -- Assumes nothing.
 use Prim.Native.Nat.{ℕ}
 use mathlib.Core.Path.{_≡_, sym, ap, _∙_}
-use mathlib.Core.Bool.{Bool}
 use Rattle.numbers.specs.Refusals.{Refusal}
 use Rattle.numbers.specs.Answers.{Answer, refused}
 use Rattle.numbers.proofs.AnswerLaws.{accepted-inj, not-refused}
@@ -30,13 +29,11 @@ refused-inj q r e = let z : said q ≡ said r = cc in one-to-one q r z
 
 -- ---- each answer says one thing
 
-abbrev head : OptionKind → Bool → ℕ → OptionHead
-head kind discardable size = record { kind = kind; discardable = discardable; size = size }
+abbrev head : Head → OptionHead
+head h = record { code = h .type; discardable = h .discardable; size = h .size }
 
 head-one : (x y : OptionHead) → head-said x ≡ head-said y → x ≡ y
-head-one x y e =
-    ap (λ (k : OptionKind). head k (x .discardable) (x .size)) (kind-pinned (x .kind) (y .kind) (ap (λ (h : Head). h .row) e))
-    ∙ ap (λ (h : Head). head (y .kind) (h .discardable) (h .size)) e
+head-one x y e = ap head e
 
 option-one : (x y : OptionAnswer) → option-said x ≡ option-said y → x ≡ y
 option-one (option.Good h) (option.Good k) e = ap option.Good (head-one h k (accepted-inj (head-said h) (head-said k) e))
@@ -68,7 +65,7 @@ size-one (size.Refused q) (size.Refused r) e = ap size.Refused (refused-inj q r 
 pub one-kind : (t : ℕ) (x y : OptionKind) → row-said x ≡ row-of t → row-said y ≡ row-of t → x ≡ y
 one-kind t x y a b = kind-pinned x y (a ∙ sym b)
 
--- `read_option`, `read_option_unscanned`
+-- `read_option`, `read_option_unscanned`, `scanned`
 pub one-option-answer : (told : Answer Head) (x y : OptionAnswer) → option-said x ≡ told → option-said y ≡ told → x ≡ y
 one-option-answer told x y a b = option-one x y (a ∙ sym b)
 

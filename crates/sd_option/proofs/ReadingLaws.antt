@@ -30,7 +30,8 @@ use Rattle.sd_option.specs.declared.reading.OptionAnswer.{OptionAnswer}
 use Rattle.sd_option.specs.declared.reading.OptionAnswer.the-variants as option
 use Rattle.sd_option.specs.declared.reading.LengthAnswer.{LengthAnswer}
 use Rattle.sd_option.specs.declared.reading.LengthAnswer.the-variants as len
-use Rattle.sd_option.specs.Reading.{Head, head-of, head-said, option-said, part, body-of, body-length, length-judged, length-said, length-refusal, string-refusal}
+use Rattle.sd_option.specs.declared.kinds.OptionKind.{OptionKind}
+use Rattle.sd_option.specs.Reading.{Head, head-of, head-said, option-said, part, behind-type, scan-told, body-of, body-length, length-judged, length-said, length-refusal, string-refusal}
 
 -- ---- what was accepted, in another form
 
@@ -144,7 +145,7 @@ then-then (refused q) w a = refl
 
 -- what is told of the frame of `n` bytes
 pub front-head : (s : List ℕ) (n : ℕ) → 1 ≤ n → 3 + n ≤ length s
-    → head-of (front s n) ≡ record { row = row-of (getD s 2 0); discardable = has (getD s 3 0) 0x80; size = 3 + n }
+    → head-of (front s n) ≡ record { type = getD s 2 0; discardable = has (getD s 3 0) 0x80; size = 3 + n }
 front-head s n some within =
     let b : getD (take n (drop 3 s)) 0 0 ≡ getD s 3 0 = getD-take n (drop 3 s) 0 0 some ∙ getD-drop 3 s 0 0 in
     rw (b, front-length s n within)
@@ -176,9 +177,9 @@ module _ (s : List ℕ) (n : ℕ) (t : Framed s n) (w : Row) (same : w ≡ row-o
         in-order unscanned ∙ rw (f .0, no-scan (w .kind) (body-at s n))
 
     pub head-told : (m : ℕ) → a ≡ len.Good m → (d : Bool) → d ≡ has (getD s 3 0) 0x80
-        → accepted (record { row = w; discardable = d; size = 3 + n }) ≡ given head-of (one-option unscanned s)
+        → accepted (record { type = getD s 2 0; discardable = d; size = 3 + n }) ≡ given head-of (one-option unscanned s)
     unfolding given
-    head-told m e d bit = rw (kind-accepts m e, front-head s n (t .some) (t .within), same, bit)
+    head-told m e d bit = rw (kind-accepts m e, front-head s n (t .some) (t .within), bit)
 
 -- ---- what the acceptance of an option says, whatever judges its string
 
@@ -191,7 +192,7 @@ pub record Stands (s : List ℕ) (n : ℕ) (f : Frame) : Type 0 where
 pub record Found (text : List ℕ → Verdict) (s : List ℕ) (h : Head) : Type 0 where
   pub some : 4 ≤ h .size
   pub within : h .size ≤ length s
-  pub row : h .row ≡ row-of (getD s 2 0)
+  pub type : h .type ≡ getD s 2 0
   pub reads : one-option text s ≡ accepted (front s (h .size - 3))
   pub fits : judge-length (row-of (getD s 2 0) .len) (body-at s (h .size - 3)) ≡ pass
   pub head : h ≡ head-of (front s (h .size - 3))
@@ -221,7 +222,7 @@ module _ (text : List ℕ → Verdict) (s : List ℕ) where
       record {
         some = omega arith;
         within = omega arith;
-        row = ap (λ (x : Head). x .row) z;
+        type = ap (λ (x : Head). x .type) z;
         reads = reads ∙ ap accepted (t .same ∙ ap (front s) n);
         fits = rw n at (t .fits);
         head = z ∙ ap (λ (k : ℕ). head-of (front s k)) n;
@@ -289,34 +290,61 @@ string-text : (text : List ℕ → Verdict) (k : Kind) (body : List ℕ) → k �
 unfolding judge-text
 string-text text k body e = rw e
 
-module _ (s : List ℕ) (a : OptionAnswer) (told : option-said a ≡ given head-of (one-option unscanned s)) where
-  pub scan-refuses : (q : code.Refusal) → a ≡ option.Refused q → option-said a ≡ given head-of (read-option s)
-  unfolding given _>>=_
-  scan-refuses q e = rw (rescanned scanned s, not-found unscanned s a told q e, e)
+-- the bytes after the type of an option that stands there
+behind : (s : List ℕ) (n : ℕ) → 3 + n ≤ length s → behind-type s (3 + n) ≡ body-at s n
+behind s n within = let e : 3 + n - 3 ≡ n = omega arith in rw (le-ltb (length s) (3 + n) within, e)
 
-  module _ (hd : OptionHead) (e : a ≡ option.Good hd) where
-    abbrev string-judged : Verdict
-    string-judged = judge-text scanned (row-said (hd .kind) .kind) (body-at s (hd .size - 3))
+told-given : (v : Verdict) (f : Frame) → (v >> accepted (head-of f)) ≡ given head-of (v >> accepted f)
+unfolding _>>_ given
+told-given (accepted u) f = refl
+told-given (refused r) f = refl
 
-    scans : read-option s ≡ (string-judged >> accepted (front s (hd .size - 3)))
-    unfolding _>>=_
-    scans = let t = found unscanned s a told hd e in rescanned scanned s ∙ rw (t .reads, t .row)
+scan-frame : (s : List ℕ) (a : Answer Frame) → one-option unscanned s ≡ a
+    → scan-told s (given head-of a) ≡ given head-of (a >>= λ f. judge-text scanned (kind-of (f .type)) (f .body) >> accepted f)
+unfolding given _>>=_
+scan-frame s (accepted f) e =
+    let t = read-stands unscanned s f e in
+    let b : behind-type s (size f) ≡ f .body = behind s (length (f .body)) (t .framed .within) ∙ sym (ap (λ (x : Frame). x .body) (t .same)) in
+    rw b (told-given (judge-text scanned (kind-of (f .type)) (f .body)) f)
+scan-frame s (refused r) e = refl
 
-    scan-passes : string-judged ≡ pass → accepted (head-said hd) ≡ given head-of (read-option s)
-    unfolding _>>_
-    scan-passes v = let t = found unscanned s a told hd e in sym (ap option-said e) ∙ told ∙ ap (given head-of) (t .reads ∙ sym (scans ∙ rw v))
+-- the reading of one option is the reading without its string, and then its string
+pub scan-reads : (s : List ℕ) → scan-told s (given head-of (one-option unscanned s)) ≡ given head-of (read-option s)
+scan-reads s = scan-frame s (one-option unscanned s) refl ∙ sym (ap (given head-of) (rescanned scanned s))
 
-    pub stringless : row-said (hd .kind) .kind ≢ configuration → accepted (head-said hd) ≡ given head-of (read-option s)
-    stringless other = scan-passes (string-pass scanned (row-said (hd .kind) .kind) (body-at s (hd .size - 3)) other)
+-- the string as the code takes it
+module _ (s : List ℕ) (n : ℕ) where
+  pub string-cut : length s < n → [] ≡ drop 1 (behind-type s n)
+  string-cut h = rw (lt-ltb (length s) n h)
 
-    module _ (is : row-said (hd .kind) .kind ≡ configuration) (str : StringAnswer) (checked : answered str ≡ scanned (take (hd .size - 4) (drop 4 s))) where
-      judged : string-judged ≡ answered str
-      judged = string-text scanned (row-said (hd .kind) .kind) (body-at s (hd .size - 3)) is ∙ ap scanned (string-place s (hd .size) (found unscanned s a told hd e .some)) ∙ sym checked
+  pub string-none : n ≤ length s → n < 4 → [] ≡ drop 1 (behind-type s n)
+  string-none within few = let e : n - 3 ≡ 0 = omega arith in rw (le-ltb (length s) n within, e)
 
-      pub string-valid : str ≡ string.Valid → accepted (head-said hd) ≡ given head-of (read-option s)
-      string-valid v = scan-passes (judged ∙ ap answered v)
+  pub string-there : n ≤ length s → 4 ≤ n → take (n - 4) (drop 4 s) ≡ drop 1 (behind-type s n)
+  string-there within some = rw (le-ltb (length s) n within) (sym (string-place s n some))
 
-      pub string-refused : (error : StringError) (r : code.Refusal) → str ≡ string.Refused error → r ≡ string-refusal str
-          → refused (said r) ≡ given head-of (read-option s)
-      unfolding given _>>_
-      string-refused error r v z = rw (scans, judged, z, v)
+pub scan-refuses : (s : List ℕ) (a : OptionAnswer) (q : code.Refusal) → a ≡ option.Refused q → option-said a ≡ scan-told s (option-said a)
+unfolding _>>=_
+scan-refuses s a q e = rw e
+
+-- with the kind that the type of its head has
+module _ (s : List ℕ) (a : OptionAnswer) (hd : OptionHead) (e : a ≡ option.Good hd) (k : OptionKind) (named : row-said k ≡ row-of (hd .code)) where
+  of-kind : row-said k .kind ≡ kind-of (hd .code)
+  of-kind = ap (λ (w : Row). w .kind) named
+
+  pub stringless : row-said k .kind ≢ configuration → accepted (head-said hd) ≡ scan-told s (option-said a)
+  unfolding _>>=_ _>>_
+  stringless other = rw (e, string-pass scanned (kind-of (hd .code)) (behind-type s (hd .size)) (λ is. other (of-kind ∙ is)))
+
+  module _ (is : row-said k .kind ≡ configuration) (str : StringAnswer) (checked : answered str ≡ scanned (drop 1 (behind-type s (hd .size)))) where
+    judged : judge-text scanned (kind-of (hd .code)) (behind-type s (hd .size)) ≡ answered str
+    judged = string-text scanned (kind-of (hd .code)) (behind-type s (hd .size)) (sym of-kind ∙ is) ∙ sym checked
+
+    pub string-valid : str ≡ string.Valid → accepted (head-said hd) ≡ scan-told s (option-said a)
+    unfolding _>>=_ _>>_
+    string-valid v = rw (e, judged, v)
+
+    pub string-refused : (error : StringError) (r : code.Refusal) → str ≡ string.Refused error → r ≡ string-refusal str
+        → refused (said r) ≡ scan-told s (option-said a)
+    unfolding _>>=_ _>>_
+    string-refused error r v z = rw (e, judged, z, v)

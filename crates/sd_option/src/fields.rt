@@ -1,6 +1,7 @@
 // The fields of the option in front of a slice, whatever else stands in it. An option of another kind has no such field, which is refusal 20;
 // bytes that hold no option get the refusal of their reading. Configuration strings are not scanned.
 use crate::kinds::OptionKind;
+use crate::kinds::kind_of;
 use crate::reading::OptionAnswer;
 use crate::reading::option_refusal;
 use crate::reading::read_option_unscanned;
@@ -49,7 +50,7 @@ pub fn address_size(s: &[u8]) -> SizeAnswer
     let OptionAnswer::Good(head) = answer else {
         return SizeAnswer::Refused(option_refusal(answer));
     };
-    let kind = head.kind;
+    let kind = kind_of(head.code);
     match kind {
         OptionKind::Ipv4Endpoint | OptionKind::Ipv4Multicast | OptionKind::Ipv4SdEndpoint =>
             SizeAnswer::Good(4),
@@ -90,7 +91,7 @@ fn balancing(s: &[u8], place: usize) -> WordAnswer
     let OptionAnswer::Good(head) = answer else {
         return WordAnswer::Refused(option_refusal(answer));
     };
-    let kind = head.kind;
+    let kind = kind_of(head.code);
     let OptionKind::LoadBalancing = kind else {
         return WordAnswer::Refused(Refusal::NothingThere);
     };
@@ -119,7 +120,7 @@ pub fn string_size(s: &[u8]) -> SizeAnswer
     let OptionAnswer::Good(head) = answer else {
         return SizeAnswer::Refused(option_refusal(answer));
     };
-    let kind = head.kind;
+    let kind = kind_of(head.code);
     let OptionKind::Configuration = kind else {
         return SizeAnswer::Refused(Refusal::NothingThere);
     };
@@ -134,7 +135,7 @@ pub fn unknown_size(s: &[u8]) -> SizeAnswer
     let OptionAnswer::Good(head) = answer else {
         return SizeAnswer::Refused(option_refusal(answer));
     };
-    let kind = head.kind;
+    let kind = kind_of(head.code);
     let OptionKind::Unknown(_) = kind else {
         return SizeAnswer::Refused(Refusal::NothingThere);
     };
@@ -149,7 +150,7 @@ pub fn unknown_type(s: &[u8]) -> ByteAnswer
     let OptionAnswer::Good(head) = answer else {
         return ByteAnswer::Refused(option_refusal(answer));
     };
-    let kind = head.kind;
+    let kind = kind_of(head.code);
     let OptionKind::Unknown(code) = kind else {
         return ByteAnswer::Refused(Refusal::NothingThere);
     };

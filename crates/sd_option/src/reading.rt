@@ -12,16 +12,16 @@ use refusal::Refusal;
 ghost use mathlib.Core.Path.{_≡_};
 ghost use Prim.Native.Nat.{ℕ};
 ghost use mathlib.Core.List.{List};
-ghost use lib.ListN.{length};
+ghost use lib.ListN.{length, drop};
 ghost use Rattle.numbers.specs.Answers.{given};
 ghost use Rattle.sd_format.specs.Kinds.{unscanned};
 ghost use Rattle.sd_format.specs.Frames.{frame, one-option, read-option};
 ghost use Rattle.sd_option.specs.Kinds.{row-said};
-ghost use Rattle.sd_option.specs.Reading.{length-said, length-judged, length-refusal, string-refusal, option-refusal, body-length, body-of, part, option-said, head-of};
+ghost use Rattle.sd_option.specs.Reading.{length-said, length-judged, length-refusal, string-refusal, option-refusal, body-length, body-of, part, behind-type, scan-told, option-said, head-of};
 
-// What is told of an option: its kind, the discardable bit, and how many bytes it takes, its length and its type among them.
+// What is told of an option: its type code, the discardable bit, and how many bytes it takes, its length and its type among them.
 pub struct OptionHead {
-    pub kind: OptionKind,
+    pub code: u8,
     pub discardable: bool,
     pub size: usize,
 }
@@ -102,14 +102,14 @@ pub fn read_option_unscanned(s: &[u8]) -> OptionAnswer
     let LengthAnswer::Good(length) = framed else {
         return OptionAnswer::Refused(length_refusal(framed));
     };
-    let kind = kind_of(s[2]);
-    let judged = judged_length(kind, length);
+    let code = s[2];
+    let judged = judged_length(kind_of(code), length);
     let LengthAnswer::Good(_) = judged else {
         return OptionAnswer::Refused(length_refusal(judged));
     };
     let discardable = is_discardable(s[3]);
     OptionAnswer::Good(OptionHead {
-        kind,
+        code,
         discardable,
         size: 3 + length,
     })
@@ -125,24 +125,46 @@ fn string_refusal(answer: StringAnswer) -> Refusal
     }
 }
 
+// The string of a configuration option that takes `size` bytes; none where `s` has not so many.
+fn string_of(s: &[u8], size: usize) -> &[u8]
+    ensures { λ r. ⌜ now r ≡ drop 1 (behind-type (now (s .entry)) size) ⌝ }
+{
+    if s.len() < size {
+        return &s[..0];
+    }
+    if size < 4 {
+        return &s[..0];
+    }
+    &s[4..size]
+}
+
+impl OptionAnswer {
+    // The same answer for the option in front of `s`, once the string of a configuration option is scanned. The reading of all options calls
+    // this and `read_option_unscanned` itself: two small functions are made part of its loop, one large one is not (docs/SPEED.md).
+    pub fn scanned(self, s: &[u8]) -> OptionAnswer
+        ensures { λ r. ⌜ option-said r ≡ scan-told (now (s .entry)) (option-said self) ⌝ }
+    {
+        let answer = self;
+        let OptionAnswer::Good(head) = answer else {
+            return answer;
+        };
+        let kind = kind_of(head.code);
+        let OptionKind::Configuration = kind else {
+            return answer;
+        };
+        let string = check_string(string_of(s, head.size));
+        let StringAnswer::Valid = string else {
+            return OptionAnswer::Refused(string_refusal(string));
+        };
+        answer
+    }
+}
+
 // One option in front of `s`.
 pub fn read_option(s: &[u8]) -> OptionAnswer
     ensures { λ r. ⌜ option-said r ≡ given head-of (read-option (now (s .entry))) ⌝ }
 {
-    let answer = read_option_unscanned(s);
-    let OptionAnswer::Good(head) = answer else {
-        return answer;
-    };
-    let kind = head.kind;
-    let OptionKind::Configuration = kind else {
-        return answer;
-    };
-    let size = head.size;
-    let string = check_string(&s[4..size]);
-    let StringAnswer::Valid = string else {
-        return OptionAnswer::Refused(string_refusal(string));
-    };
-    answer
+    read_option_unscanned(s).scanned(s)
 }
 
 // Why an option was refused; 20 where it was not.

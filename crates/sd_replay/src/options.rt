@@ -13,24 +13,15 @@ use sd_index::RunCursor;
 use sd_option::fields::ByteAnswer;
 use sd_option::fields::SizeAnswer;
 use sd_option::fields::WordAnswer;
-use sd_option::kinds::OptionKind;
-use sd_option::kinds::row_of;
 use sd_option::reading::OptionAnswer;
 use sd_option::reading::OptionHead;
 
 // More than the options that an options part, or a run, has at most.
 const MOST: u32 = 400;
 
-// The type byte of a kind.
-fn code_of(kind: OptionKind) -> u8 {
-    let row = row_of(kind);
-    row.code
-}
-
 // An option at a place: its type, the place, how many bytes it takes.
 fn placed(head: OptionHead, at: usize) -> Numbers {
-    let kind = head.kind;
-    accepted(3, [code_of(kind) as usize, at, head.size, 0])
+    accepted(3, [head.code as usize, at, head.size, 0])
 }
 
 // A field of two bytes, 0 where the option has none.
@@ -59,9 +50,8 @@ fn add_part(sum: u32, answer: SizeAnswer) -> u32 {
 
 // A sum with the option in front of `s`, which was accepted, and all its fields.
 fn add_fields(sum: u32, head: OptionHead, s: &[u8]) -> u32 {
-    let kind = head.kind;
     let answered = add_answer(sum, accepted(0, [0, 0, 0, 0]));
-    let coded = add_number(answered, code_of(kind) as u32);
+    let coded = add_number(answered, head.code as u32);
     let sized = add_value(coded, head.size);
     let bits = add_number(sized, bit(head.discardable));
     let first = add_number(bits, word_or_zero(sd_option::fields::priority(s)));

@@ -14,6 +14,7 @@ use sd_option::fields::ByteAnswer;
 use sd_option::fields::SizeAnswer;
 use sd_option::fields::WordAnswer;
 use sd_option::kinds::OptionKind;
+use sd_option::kinds::kind_of;
 use sd_option::reading::OptionHead;
 
 fn kind_word(kind: OptionKind) {
@@ -112,11 +113,10 @@ fn items(string: &[u8]) {
 
 // The option in front of `s`, on a line of its own, and its items behind it.
 fn option(ordinal: usize, head: OptionHead, s: &[u8]) {
-    let kind = head.kind;
     text(b"    option ");
     number(ordinal);
     text(b": ");
-    kind_word(kind);
+    kind_word(kind_of(head.code));
     address(sd_option::fields::address(s));
     protocol(sd_option::fields::protocol(s));
     word(b", port ", sd_option::fields::port(s));

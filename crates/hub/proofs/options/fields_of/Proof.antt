@@ -4,9 +4,6 @@ use Rattle.hub.proofs.FieldLaws.{option-made}
 use Rattle.hub.proofs.options.fields_of.Statement.{statement}
 use Rattle.hub.proofs.options.fields_of.Tie as tie
 
-row-of-requires : tie.Need-row-of-requires
-row-of-requires c κs = search needs
-
 address-size-requires : tie.Need-address-size-requires
 address-size-requires c κs = search needs
 
@@ -16,8 +13,8 @@ string-size-requires c κs = search needs
 none-requires : tie.Need-none-requires
 none-requires c κs = search needs
 
-cast-t8 : tie.Need-cast-t8
-cast-t8 c = search needs
+cast-t6 : tie.Need-cast-t6
+cast-t6 c = search needs
 
 bit-requires : tie.Need-bit-requires
 bit-requires c κs = search needs
@@ -60,8 +57,8 @@ size-or-zero-requires-2 c κs = search needs
 
 returns : tie.Need-returns
 returns c =
-    let start = c .before .before .before .before .before .before .before .before .before .before .before .before .before .before .before .before .before .before .before in
-    option-made (start .args .s .now) (start .args .head) (c .before .before .before .before .before .before .before .before .before .before .before .before .before .before .before .before .before .row-of .ensures) (c .before .before .before .before .before .before .before .before .before .before .before .before .before .before .none .ensures) (c .before .before .before .before .before .before .before .before .before .before .before .before .bit .ensures)
+    let start = c .before .before .before .before .before .before .before .before .before .before .before .before .before .before .before .before .before .before in
+    option-made (start .args .s .now) (start .args .head) (c .before .before .before .before .before .before .before .before .before .before .before .before .before .before .none .ensures) (c .before .before .before .before .before .before .before .before .before .before .before .before .bit .ensures)
     (c .before .before .before .before .before .before .before .before .before .before .before .priority .ensures) (c .before .before .before .before .before .before .before .before .before .before .word-or-zero .ensures) (c .before .before .before .before .before .before .before .before .before .weight .ensures)
     (c .before .before .before .before .before .before .before .before .word-or-zero2 .ensures) (c .before .before .before .before .before .before .before .before .before .before .before .before .before .before .before .before .address-size .ensures) (c .before .before .before .before .before .before .before .place-of .ensures)
     (c .before .before .before .before .before .before .size-or-zero .ensures) (c .before .before .before .before .before .protocol .ensures) (c .before .before .before .before .byte-or-zero .ensures)
@@ -72,11 +69,10 @@ pub fields-of-spec : {M : Type 1} → statement M
 fields-of-spec =
     tie.close
     (tie.spec
-    row-of-requires
     address-size-requires
     string-size-requires
     none-requires
-    cast-t8
+    cast-t6
     bit-requires
     priority-requires
     word-or-zero-requires

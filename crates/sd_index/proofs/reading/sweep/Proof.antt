@@ -1,19 +1,19 @@
 -- `reading::sweep` meets its contract. The invariant: the options read so far, in front of those that are left, are all options; their places
 -- stand in the table's first slots, and the first that may not stand is remembered. Assumes nothing.
-use Prim.Native.Nat.{ℕ, _+_, _*_, _-_, _≤_, _<_}
-use mathlib.Core.Path.{_≡_, refl, sym, ap, _∙_}
+use Prim.Native.Nat.{ℕ, _+_, _-_, _≤_, _<_}
+use mathlib.Core.Path.{_≡_, sym, ap, _∙_}
 use mathlib.Core.List.{List}
 use native.Mathlib.Omega.{arith}
 use borrow.Author.Needs.{needs}
-use lib.ListN.{length, drop, length-set}
+use lib.ListN.{length, take, drop}
 use denote.Ref.{now}
 use Rattle.numbers.specs.Answers.{Verdict, accepted, refused, given, _>>_}
 use Rattle.numbers.proofs.ByteLaws.{take-rest}
 use Rattle.sd_format.specs.Settings.{Settings}
-use Rattle.sd_format.specs.Frames.{Frame, size, read-option, permit, all-options}
+use Rattle.sd_format.specs.Frames.{Frame, size, read-option, all-options}
 use Rattle.refusal.specs.Said.{said}
-use Rattle.sd_option.specs.Reading.{Head, head-of, head-said, option-said, option-refusal}
-use Rattle.sd_option.proofs.ReadingLaws.{given-accepted, given-refused}
+use Rattle.sd_option.specs.Reading.{Head, head-of, head-said, option-said, option-refusal, scan-told}
+use Rattle.sd_option.proofs.ReadingLaws.{given-accepted, given-refused, scan-reads}
 use Rattle.sd_index.specs.Said.{settings-said, permission-said}
 use Rattle.sd_index.specs.Permission.{permit-told}
 use Rattle.sd_index.proofs.PermissionLaws.{told-permits}
@@ -52,19 +52,24 @@ long c =
 
 -- ---- after the reading of one
 
-told : (c : tie.After-read-option Inv-loop μ-loop)
-    → option-said (c .read-option .result) ≡ given head-of (read-option (drop (c .before .before .before .loop .at) (S (c .before .before .before))))
-told c = c .read-option .ensures ∙ ap (λ (t : List ℕ). given head-of (read-option t)) (take-rest (S (c .before .before .before)) (c .before .before .before .loop .at))
+told : (c : tie.After-scanned Inv-loop μ-loop)
+    → option-said (c .scanned .result) ≡ given head-of (read-option (drop (c .before .before .before .before .loop .at) (S (c .before .before .before .before))))
+told c =
+    let l = c .before .before .before .before in
+    let rest = take (length (S l) - l .loop .at) (drop (l .loop .at) (S l)) in
+    c .scanned .ensures ∙ ap (scan-told rest) (c .before .read-option-unscanned .ensures) ∙ scan-reads rest
+    ∙ ap (λ (t : List ℕ). given head-of (read-option t)) (take-rest (S l) (l .loop .at))
 
 -- the option that was read, where it is good
 frame-at : (c : tie.After-answer Inv-loop μ-loop)
-    → (f : Frame) × (read-option (drop (c .before .before .before .before .before .loop .at) (S (c .before .before .before .before .before))) ≡ accepted f)
+    → (f : Frame) × (read-option (drop (c .before .before .before .before .before .before .loop .at) (S (c .before .before .before .before .before .before))) ≡ accepted f)
     × (head-said (c .answer .given .0 .0) ≡ head-of f)
 frame-at c = given-accepted head-of _ (head-said (c .answer .given .0 .0)) (sym (ap option-said (c .answer .given .1)) ∙ told (c .before .before))
 
-within : (c : tie.After-answer Inv-loop μ-loop) → (4 ≤ size (frame-at c .0)) × (c .before .before .before .before .before .loop .at + size (frame-at c .0) ≤ length (S (c .before .before .before .before .before)))
+within : (c : tie.After-answer Inv-loop μ-loop)
+    → (4 ≤ size (frame-at c .0)) × (c .before .before .before .before .before .before .loop .at + size (frame-at c .0) ≤ length (S (c .before .before .before .before .before .before)))
 within c =
-    let i = c .before .before .before .before in
+    let i = c .before .before .before .before .before in
     turn-within _ _ _ _ _ _ _ (i .before .loop .inv) (i .loop-test .taken) (frame-at c .0) (frame-at c .1)
 
 size-is : (c : tie.After-answer Inv-loop μ-loop) → c .answer .given .0 .0 .size ≡ size (frame-at c .0)
@@ -73,17 +78,20 @@ size-is c = ap (λ (h : Head). h .size) (frame-at c .2)
 loop-holds : tie.Need-loop-holds Inv-loop μ-loop
 loop-holds c = turn-starts _ _ _
 
-sub-read-option : tie.Need-sub-read-option Inv-loop μ-loop
-sub-read-option c = omega arith
+sub-rest : tie.Need-sub-rest Inv-loop μ-loop
+sub-rest c = omega arith
 
-part-read-option-start : tie.Need-part-read-option-start Inv-loop μ-loop
-part-read-option-start c = omega arith
+part-rest-start : tie.Need-part-rest-start Inv-loop μ-loop
+part-rest-start c = omega arith
 
-part-read-option-end : tie.Need-part-read-option-end Inv-loop μ-loop
-part-read-option-end c = omega arith
+part-rest-end : tie.Need-part-rest-end Inv-loop μ-loop
+part-rest-end c = omega arith
 
-read-option-requires : tie.Need-read-option-requires Inv-loop μ-loop
-read-option-requires c κs = search needs
+read-option-unscanned-requires : tie.Need-read-option-unscanned-requires Inv-loop μ-loop
+read-option-unscanned-requires c κs = search needs
+
+scanned-requires : tie.Need-scanned-requires Inv-loop μ-loop
+scanned-requires c κs = search needs
 
 enum-known-answer : tie.Need-enum-known-answer Inv-loop μ-loop
 enum-known-answer c = search needs
@@ -95,12 +103,12 @@ option-refusal-requires : tie.Need-option-refusal-requires Inv-loop μ-loop
 option-refusal-requires c κs = search needs
 
 same-length : tie.Need-same-length Inv-loop μ-loop
-same-length c = long (c .before .before .before .before .before)
+same-length c = long (c .before .before .before .before .before .before)
 
 returns : tie.Need-returns Inv-loop μ-loop
 returns c =
     let r = c .before .before .before in
-    let i = r .before .before in
+    let i = r .before .before .before in
     let l = i .before .loop in
     let q = c .before .enum-told .given .0 .0 in
     let why : c .option-refusal .result ≡ q = c .option-refusal .ensures ∙ ap option-refusal (c .before .enum-told .given .1) in
@@ -109,13 +117,13 @@ returns c =
     (stops ∙ ap (λ (x : _). refused (said x)) (sym why), long i, turn-past _ _ _ _ _ _ _ (l .inv) (omega (arith, sizes i)) (omega (arith, sizes i)))
 
 slot-of-requires : tie.Need-slot-of-requires Inv-loop μ-loop
-slot-of-requires c κs = omega (arith, sizes (c .before .before .before .before .before))
+slot-of-requires c κs = omega (arith, sizes (c .before .before .before .before .before .before))
 
 mul-table : tie.Need-mul-table Inv-loop μ-loop
-mul-table c = omega (arith, sizes (c .before .before .before .before .before .before))
+mul-table c = omega (arith, sizes (c .before .before .before .before .before .before .before))
 
 slice-write-table : tie.Need-slice-write-table Inv-loop μ-loop
-slice-write-table c = omega (arith, sizes (c .before .before .before .before .before .before), long (c .before .before .before .before .before .before))
+slice-write-table c = let i = c .before .before .before .before .before .before .before in omega (arith, sizes i, long i)
 
 permission-of-requires : tie.Need-permission-of-requires Inv-loop μ-loop
 permission-of-requires c κs = search needs
@@ -124,10 +132,10 @@ first-requires : tie.Need-first-requires Inv-loop μ-loop
 first-requires c κs = search needs
 
 add-count : tie.Need-add-count Inv-loop μ-loop
-add-count c = omega (arith, sizes (c .before .before .before .before .before .before .before .before))
+add-count c = omega (arith, sizes (c .before .before .before .before .before .before .before .before .before))
 
 add-at : tie.Need-add-at Inv-loop μ-loop
-add-at c = let a = c .before .before .before .before .before in omega (arith, within a, size-is a, sizes (a .before .before .before .before))
+add-at c = let a = c .before .before .before .before .before in omega (arith, within a, size-is a, sizes (a .before .before .before .before .before))
 
 loop-less : tie.Need-loop-less Inv-loop μ-loop
 loop-less c = let a = c .before .before .before .before .before in omega (arith, within a, size-is a)
@@ -138,7 +146,7 @@ loop-again c =
     let permission = first .before in
     let slot = permission .before in
     let a = slot .before .before in
-    let i = a .before .before .before .before in
+    let i = a .before .before .before .before .before in
     let (f, e, h) = frame-at a in
     turn-next _ _ _ _ _ _ _ (i .before .loop .inv) (i .loop-test .taken) f e (omega (arith, sizes i)) _ (slot .slot-of .ensures) _ (size-is a) _
     (first .first .ensures
@@ -159,10 +167,11 @@ sweep-spec =
     Inv-loop
     μ-loop
     loop-holds
-    sub-read-option
-    part-read-option-start
-    part-read-option-end
-    read-option-requires
+    sub-rest
+    part-rest-start
+    part-rest-end
+    read-option-unscanned-requires
+    scanned-requires
     enum-known-answer
     enum-told
     option-refusal-requires

@@ -31,14 +31,26 @@ returns c =
     let b = c .before .before .before in
     size-of-refused _ _ (b .read-option-unscanned .result) _ (c .option-refusal .result) (b .read-option-unscanned .ensures) (c .before .enum-told .given .1) (c .option-refusal .ensures)
 
+kind-of-requires : tie.Need-kind-of-requires
+kind-of-requires c κs = search needs
+
 returns-2 : tie.Need-returns-2
-returns-2 c = address-size _ (c .before .before .answer .given .0 .0) (here (c .before .before)) ipv4 (address-arms (c .before .before .answer .given .0 .0 .kind) .0 (c .match2 .keys1))
+returns-2 c =
+    let n = c .before in
+    let a = n .before .before in
+    address-size _ (a .answer .given .0 .0) (n .kind-of .result) (n .kind-of .ensures) (here a) ipv4 (address-arms (n .kind-of .result) .0 (c .match2 .keys1))
 
 returns-3 : tie.Need-returns-3
-returns-3 c = address-size _ (c .before .before .answer .given .0 .0) (here (c .before .before)) ipv6 (address-arms (c .before .before .answer .given .0 .0 .kind) .1 (c .match2 .keys2))
+returns-3 c =
+    let n = c .before in
+    let a = n .before .before in
+    address-size _ (a .answer .given .0 .0) (n .kind-of .result) (n .kind-of .ensures) (here a) ipv6 (address-arms (n .kind-of .result) .1 (c .match2 .keys2))
 
 returns-4 : tie.Need-returns-4
-returns-4 c = no-address _ (c .before .before .answer .given .0 .0) (here (c .before .before)) (address-arms (c .before .before .answer .given .0 .0 .kind) .2 (c .match2 .keys3))
+returns-4 c =
+    let n = c .before in
+    let a = n .before .before in
+    no-address _ (a .answer .given .0 .0) (n .kind-of .result) (n .kind-of .ensures) (here a) (address-arms (n .kind-of .result) .2 (c .match2 .keys3))
 
 pub address-size-spec : {M : Type 1} → statement M
 address-size-spec =
@@ -49,6 +61,7 @@ address-size-spec =
     enum-told
     option-refusal-requires
     returns
+    kind-of-requires
     returns-2
     returns-3
     returns-4)

@@ -33,20 +33,27 @@ returns c =
     let b = c .before .before .before in
     sym (asked-of-refused _ _ (b .read-option-unscanned .result) _ (c .option-refusal .result) (b .read-option-unscanned .ensures) (c .before .enum-told .given .1) (c .option-refusal .ensures))
 
+kind-of-requires : tie.Need-kind-of-requires
+kind-of-requires c κs = search needs
+
 enum-told-2 : tie.Need-enum-told-2
 enum-told-2 c = search needs
 
 returns-2 : tie.Need-returns-2
-returns-2 c = let a = c .before .before in no-balancing-told _ (a .answer .given .0 .0) (here a) _ (not-balancing (a .answer .given .0 .0 .kind) (c .match2 .keys2))
+returns-2 c =
+    let n = c .before in
+    let a = n .before .before in
+    no-balancing-told _ (a .answer .given .0 .0) (n .kind-of .result) (n .kind-of .ensures) (here a) _ (not-balancing (n .kind-of .result) (c .match2 .keys2))
 
 add-be16 : tie.Need-add-be16
 add-be16 c = search needs
 
 shared-slice-read-be16 : tie.Need-shared-slice-read-be16
 shared-slice-read-be16 c =
-    let a = c .before .before .before .before in
+    let n = c .before .before .before in
+    let a = n .before .before in
     let t = here a in
-    let n = balancing-size _ (a .answer .given .0 .0) t (c .before .enum-told2 .given .1) in
+    let size = balancing-size _ (a .answer .given .0 .0) (n .kind-of .result) (n .kind-of .ensures) t (c .before .enum-told2 .given .1) in
     omega arith
 
 add-be16-2 : tie.Need-add-be16-2
@@ -54,9 +61,10 @@ add-be16-2 c = search needs
 
 shared-slice-read-be16-2 : tie.Need-shared-slice-read-be16-2
 shared-slice-read-be16-2 c =
-    let a = c .before .before .before .before .before in
+    let n = c .before .before .before .before in
+    let a = n .before .before in
     let t = here a in
-    let n = balancing-size _ (a .answer .given .0 .0) t (c .before .before .enum-told2 .given .1) in
+    let size = balancing-size _ (a .answer .given .0 .0) (n .kind-of .result) (n .kind-of .ensures) t (c .before .before .enum-told2 .given .1) in
     omega arith
 
 be16-requires : tie.Need-be16-requires
@@ -64,9 +72,10 @@ be16-requires c κs = search needs
 
 returns-3 : tie.Need-returns-3
 returns-3 c =
-    let a = c .before .before .before .before .before .before in
+    let n = c .before .before .before .before .before in
+    let a = n .before .before in
     let s = a .before .before .before .before in
-    balancing-told _ (a .answer .given .0 .0) (here a) (s .args .place) (c .be16 .result) (s .pre) (c .before .before .before .enum-told2 .given .1) (c .be16 .ensures)
+    balancing-told _ (a .answer .given .0 .0) (n .kind-of .result) (n .kind-of .ensures) (here a) (s .args .place) (c .be16 .result) (s .pre) (c .before .before .before .enum-told2 .given .1) (c .be16 .ensures)
 
 pub balancing-spec : {M : Type 1} → statement M
 balancing-spec =
@@ -77,6 +86,7 @@ balancing-spec =
     enum-told
     option-refusal-requires
     returns
+    kind-of-requires
     enum-told-2
     returns-2
     add-be16

@@ -32,17 +32,26 @@ returns c =
     let b = c .before .before .before in
     size-of-refused _ _ (b .read-option-unscanned .result) _ (c .option-refusal .result) (b .read-option-unscanned .ensures) (c .before .enum-told .given .1) (c .option-refusal .ensures)
 
+kind-of-requires : tie.Need-kind-of-requires
+kind-of-requires c κs = search needs
+
 enum-told-2 : tie.Need-enum-told-2
 enum-told-2 c = search needs
 
 returns-2 : tie.Need-returns-2
-returns-2 c = let a = c .before .before in no-string-size _ (a .answer .given .0 .0) (here a) (not-configuration (a .answer .given .0 .0 .kind) (c .match2 .keys2))
+returns-2 c =
+    let n = c .before in
+    let a = n .before .before in
+    no-string-size _ (a .answer .given .0 .0) (n .kind-of .result) (n .kind-of .ensures) (here a) (not-configuration (n .kind-of .result) (c .match2 .keys2))
 
 sub-t7 : tie.Need-sub-t7
-sub-t7 c = let t = here (c .before .before .before .before) in omega arith
+sub-t7 c = let t = here (c .before .before .before .before .before) in omega arith
 
 returns-3 : tie.Need-returns-3
-returns-3 c = let a = c .before .before .before .before in string-size _ (a .answer .given .0 .0) (here a) (is-configuration _ (c .before .enum-told2 .given .1))
+returns-3 c =
+    let n = c .before .before .before in
+    let a = n .before .before in
+    string-size _ (a .answer .given .0 .0) (n .kind-of .result) (n .kind-of .ensures) (here a) (is-configuration _ (c .before .enum-told2 .given .1))
 
 pub string-size-spec : {M : Type 1} → statement M
 string-size-spec =
@@ -53,6 +62,7 @@ string-size-spec =
     enum-told
     option-refusal-requires
     returns
+    kind-of-requires
     enum-told-2
     returns-2
     sub-t7

@@ -30,14 +30,23 @@ returns c =
     let b = c .before .before .before in
     type-of-refused _ (b .read-option-unscanned .result) _ (c .option-refusal .result) (b .read-option-unscanned .ensures) (c .before .enum-told .given .1) (c .option-refusal .ensures)
 
+kind-of-requires : tie.Need-kind-of-requires
+kind-of-requires c κs = search needs
+
 enum-known-kind : tie.Need-enum-known-kind
 enum-known-kind c = search needs
 
 returns-2 : tie.Need-returns-2
-returns-2 c = let a = c .before .before in no-type-told _ (a .answer .given .0 .0) (here a) (not-unknown (a .answer .given .0 .0 .kind) (c .match2 .keys2))
+returns-2 c =
+    let n = c .before in
+    let a = n .before .before in
+    no-type-told _ (a .answer .given .0 .0) (n .kind-of .result) (n .kind-of .ensures) (here a) (not-unknown (n .kind-of .result) (c .match2 .keys2))
 
 returns-3 : tie.Need-returns-3
-returns-3 c = let a = c .before .before .before .before in type-told _ (a .answer .given .0 .0) (here a) _ (c .before .kind .given .1)
+returns-3 c =
+    let n = c .before .before .before in
+    let a = n .before .before in
+    type-told _ (a .answer .given .0 .0) (n .kind-of .result) (n .kind-of .ensures) (here a) _ (c .before .kind .given .1)
 
 pub unknown-type-spec : {M : Type 1} → statement M
 unknown-type-spec =
@@ -48,6 +57,7 @@ unknown-type-spec =
     enum-told
     option-refusal-requires
     returns
+    kind-of-requires
     enum-known-kind
     returns-2
     returns-3)

@@ -27,8 +27,8 @@ returns c =
     let b = c .before .before .before in
     frame-refuses _ (b .framed-length .result) _ (c .length-refusal .result) (b .framed-length .ensures) (c .before .enum-told .given .1) (c .length-refusal .ensures)
 
-shared-slice-read-kind-of : tie.Need-shared-slice-read-kind-of
-shared-slice-read-kind-of c = let t = stands (c .before .before) in omega arith
+shared-slice-read-code : tie.Need-shared-slice-read-code
+shared-slice-read-code c = let t = stands (c .before .before) in omega arith
 
 kind-of-requires : tie.Need-kind-of-requires
 kind-of-requires c κs = search needs
@@ -59,8 +59,8 @@ shared-slice-read-is-discardable c = let t = stands (c .before .before .before .
 is-discardable-requires : tie.Need-is-discardable-requires
 is-discardable-requires c κs = search needs
 
-add-t12 : tie.Need-add-t12
-add-t12 c = let t = stands (c .before .before .before .before .before .before .before .before) in omega arith
+add-t13 : tie.Need-add-t13
+add-t13 c = let t = stands (c .before .before .before .before .before .before .before .before) in omega arith
 
 returns-3 : tie.Need-returns-3
 returns-3 c =
@@ -79,7 +79,7 @@ read-option-unscanned-spec =
     enum-told
     length-refusal-requires
     returns
-    shared-slice-read-kind-of
+    shared-slice-read-code
     kind-of-requires
     judged-length-requires
     enum-told-2
@@ -88,5 +88,5 @@ read-option-unscanned-spec =
     returns-2
     shared-slice-read-is-discardable
     is-discardable-requires
-    add-t12
+    add-t13
     returns-3)
