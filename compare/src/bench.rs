@@ -1,5 +1,5 @@
-//! The first figures of speed: reading with index beside `SdSlice::from_slice`, and joining beside `TpBuf`. Both sides in one process, in
-//! alternating passes, medians. A time says little of another machine; the ratio is what counts.
+//! Speed: reading with index beside `SdSlice::from_slice`, and joining beside `TpBuf`. Both sides in one process, in alternating passes,
+//! medians. A time says little of another machine; the ratio is what counts. Instructions, counted by an emulator, do not hang on its load.
 
 use crate::calls::{Calls, MOST_LIMIT, SLOTS, WORDS};
 use crate::plan::family;
@@ -7,11 +7,15 @@ use crate::random::Random;
 use crate::tp_inputs::segment;
 use someip_parse::sd::SdSlice;
 use someip_parse::{SomeipMsgSlice, TpBuf, TpBufConfig};
+use std::ffi::c_long;
 use std::hint::black_box;
+use std::io::Read;
+use std::os::fd::AsRawFd;
+use std::os::unix::net::UnixStream;
+use std::sync::OnceLock;
 use std::time::Instant;
 
 const PAYLOADS: usize = 10_000;
-const PASSES: usize = 41;
 
 // ---- payloads in recorded style
 
@@ -166,24 +170,67 @@ fn refused(r: &mut Random) -> Vec<u8> {
     }
 }
 
-// ---- timing
+// ---- measuring
 
-fn median(times: &mut [f64]) -> f64 {
-    times.sort_by(f64::total_cmp);
-    times[times.len() / 2]
+/// What is measured, in how many passes of each side.
+pub struct Meter {
+    unit: &'static str,
+    passes: usize,
+    read: fn() -> u64,
 }
 
-/// Nanoseconds for each of `count` pieces of work: the medians of both sides over alternating passes.
-fn beside(count: usize, mut theirs: impl FnMut(), mut ours: impl FnMut()) -> (f64, f64) {
-    let time = |work: &mut dyn FnMut()| {
-        let start = Instant::now();
+pub const TIME: Meter = Meter {
+    unit: "ns",
+    passes: 41,
+    read: nanoseconds,
+};
+pub const INSTRUCTIONS: Meter = Meter {
+    unit: "instructions",
+    passes: 3,
+    read: instructions,
+};
+
+fn nanoseconds() -> u64 {
+    static START: OnceLock<Instant> = OnceLock::new();
+    START.get_or_init(Instant::now).elapsed().as_nanos() as u64
+}
+
+/// As the emulator's plugin (../count.c) answers a system call that there is not: it writes the count into the file that is named.
+fn instructions() -> u64 {
+    extern "C" {
+        fn syscall(number: c_long, ...) -> c_long;
+    }
+    let (mut here, there) = UnixStream::pair().expect("two sockets");
+    here.set_nonblocking(true).expect("a socket");
+    // SAFETY: no address is handed over.
+    unsafe { syscall(4242, c_long::from(there.as_raw_fd())) };
+    let mut count = [0; 8];
+    here.read_exact(&mut count)
+        .expect("an emulator that counts instructions");
+    u64::from_ne_bytes(count)
+}
+
+fn median(values: &mut [f64]) -> f64 {
+    values.sort_by(f64::total_cmp);
+    values[values.len() / 2]
+}
+
+/// For each of `count` pieces of work: the medians of both sides over alternating passes.
+fn beside(
+    meter: &Meter,
+    count: usize,
+    mut theirs: impl FnMut(),
+    mut ours: impl FnMut(),
+) -> (f64, f64) {
+    let measure = |work: &mut dyn FnMut()| {
+        let start = (meter.read)();
         work();
-        start.elapsed().as_nanos() as f64 / count as f64
+        ((meter.read)() - start) as f64 / count as f64
     };
     let (mut first, mut second) = (Vec::new(), Vec::new());
-    for _ in 0..PASSES {
-        first.push(time(&mut theirs));
-        second.push(time(&mut ours));
+    for _ in 0..meter.passes {
+        first.push(measure(&mut theirs));
+        second.push(measure(&mut ours));
     }
     (median(&mut first), median(&mut second))
 }
@@ -196,19 +243,22 @@ fn row(name: &str, detail: &str, (theirs, ours): (f64, f64)) {
 }
 
 /// Reading a list of payloads, the table lent afresh each time.
-fn reading<P: Calls>(port: &P, payloads: &[&Vec<u8>]) -> (f64, f64) {
+fn reading<P: Calls>(port: &P, meter: &Meter, payloads: &[&Vec<u8>]) -> (f64, f64) {
     beside(
+        meter,
         payloads.len(),
         || {
             for payload in payloads {
-                let _ = black_box(SdSlice::from_slice(black_box(payload)));
+                let read = SdSlice::from_slice(black_box(payload));
+                let _ = black_box(&read);
             }
         },
         || {
             for payload in payloads {
-                let mut table = black_box([0; SLOTS]);
-                black_box(port.read(black_box(payload), &mut table, false));
-                black_box(&table);
+                let mut table = [0; SLOTS];
+                black_box(&mut table);
+                let read = port.read(black_box(payload), &mut table, false);
+                black_box((&read, &table));
             }
         },
     )
@@ -228,7 +278,7 @@ fn report_segments() -> Vec<Vec<u8>> {
 }
 
 /// Joining one report: the same memory each time, cleared before, taken after.
-fn joining<P: Calls>(port: &P, segments: &[&Vec<u8>]) -> (f64, f64) {
+fn joining<P: Calls>(port: &P, meter: &Meter, segments: &[&Vec<u8>]) -> (f64, f64) {
     const REPORTS: usize = 50;
     let limit = MOST_LIMIT;
     let config = TpBufConfig::new(limit as usize, limit).expect("the limit is small");
@@ -257,10 +307,11 @@ fn joining<P: Calls>(port: &P, segments: &[&Vec<u8>]) -> (f64, f64) {
             assert!(report.accepted());
         }
     };
-    beside(REPORTS, crate_side, port_side)
+    beside(meter, REPORTS, crate_side, port_side)
 }
 
-pub fn run<P: Calls>(port: &P, seed: u64) {
+pub fn run<P: Calls>(port: &P, meter: &Meter, seed: u64) {
+    let Meter { unit, passes, .. } = meter;
     let mut payloads = Vec::new();
     for number in 0..PAYLOADS as u64 {
         let mut r = Random::of(seed, family::BENCH, number);
@@ -278,18 +329,20 @@ pub fn run<P: Calls>(port: &P, seed: u64) {
         };
         payloads.push((kind, payload));
     }
-    println!("seed {seed}, {PAYLOADS} payloads, {PASSES} passes of each side in turn, medians\n");
-    println!("| payloads | number, mean bytes | crate, ns each | Viaductle, ns each | ratio |");
+    println!("seed {seed}, {PAYLOADS} payloads, {passes} passes of each side in turn, medians\n");
+    println!(
+        "| payloads | number, mean bytes | crate, {unit} each | Viaductle, {unit} each | ratio |"
+    );
     println!("|---|---|---|---|---|");
     let whole: Vec<&Vec<u8>> = payloads.iter().map(|(_, payload)| payload).collect();
-    row("whole mix", &size(&whole), reading(port, &whole));
+    row("whole mix", &size(&whole), reading(port, meter, &whole));
     for (number, (name, ..)) in KINDS.iter().enumerate() {
         let some: Vec<&Vec<u8>> = payloads
             .iter()
             .filter(|(kind, _)| *kind == number)
             .map(|(_, payload)| payload)
             .collect();
-        row(name, &size(&some), reading(port, &some));
+        row(name, &size(&some), reading(port, meter, &some));
     }
     let segments = report_segments();
     let in_order: Vec<&Vec<u8>> = segments.iter().collect();
@@ -299,14 +352,14 @@ pub fn run<P: Calls>(port: &P, seed: u64) {
         .chain(segments.iter().skip(1).step_by(2))
         .collect();
     let reversed: Vec<&Vec<u8>> = segments.iter().rev().collect();
-    println!("\n| joining 65,520 bytes | segments | crate, ns a report | Viaductle, ns a report | ratio |");
+    println!("\n| joining 65,520 bytes | segments | crate, {unit} a report | Viaductle, {unit} a report | ratio |");
     println!("|---|---|---|---|---|");
     for (name, order) in [
         ("in order", in_order),
         ("every second, then the others", odd_even),
         ("reversed", reversed),
     ] {
-        row(name, &order.len().to_string(), joining(port, &order));
+        row(name, &order.len().to_string(), joining(port, meter, &order));
     }
 }
 

@@ -37,6 +37,7 @@ compare [--quick] [--count N] [--sequences N] [--seed S] [--threads N]
         compare; N seeded payloads and messages (5,100,000) and N seeded sequences of segments (500,000), beside the exhaustive ones
 compare --sabotage      a fault at a time in the port: each must be noticed
 compare --bench         speed beside the crate
+compare --instructions  the same in instructions, under an emulator that counts them (count.c)
 compare --record DIR    write the crate's answers for replay; needs no port
 ";
 
@@ -44,6 +45,7 @@ enum Task {
     Compare,
     Sabotage,
     Bench,
+    Instructions,
     Record(PathBuf),
 }
 
@@ -93,6 +95,7 @@ fn arguments(words: impl Iterator<Item = String>) -> Result<(Task, Plan), String
             "--threads" => plan.threads = number(value()?)?.max(1) as usize,
             "--sabotage" => task = Task::Sabotage,
             "--bench" => task = Task::Bench,
+            "--instructions" => task = Task::Instructions,
             "--record" => task = Task::Record(value()?.into()),
             _ => return Err(format!("what is {word}?")),
         }
@@ -119,7 +122,11 @@ fn with_port(task: Task, mut plan: Plan) -> ExitCode {
             }
         }
         Task::Bench => {
-            bench::run(&port::Hub, plan.seed);
+            bench::run(&port::Hub, &bench::TIME, plan.seed);
+            ExitCode::SUCCESS
+        }
+        Task::Instructions => {
+            bench::run(&port::Hub, &bench::INSTRUCTIONS, plan.seed);
             ExitCode::SUCCESS
         }
         _ => compare(&plan),
