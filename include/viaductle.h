@@ -1,8 +1,8 @@
 /* Viaductle: SOME/IP service discovery payloads read, SOME/IP-TP segments joined. Every function here is proved to give the answer that its
  * rule says, for every input. What is proved is stated in crates/hub/specs; the rules' numbers and values are in docs/.
  *
- * Link target/staticlib/libhub.a, which `rt staticlib hub` writes (x86-64, System V). Nothing else is needed: no heap, no C library, no
- * threads, no global state. examples/c has a program, and `examples/c/run` compiles and runs it.
+ * Link target/staticlib/libhub.a, which `rt staticlib hub` writes (x86-64, System V). It calls memcpy and memset, as compiled code does, and
+ * nothing else: no heap, no threads, no global state. examples/c has a program, and `examples/c/run` compiles and runs it.
  *
  * What a caller must see to, since C cannot say it:
  *   - A pointer and a length are one array that is there, the length in elements. The pointer is aligned and never null, also where the

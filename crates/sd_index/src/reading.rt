@@ -51,7 +51,7 @@ fn sweep(settings: Settings, options: &[u8], table: &mut [u16]) -> Swept
     let mut permission = Permission::Passed;
     while at < options.len() {
         let rest = &options[at..];
-        let answer = read_option_unscanned(rest).scanned(rest);
+        let answer = read_option_unscanned(rest).scanned(rest); // read_option, in its two halves
         let OptionAnswer::Good(head) = answer else {
             return Swept::Refused(option_refusal(answer));
         };
