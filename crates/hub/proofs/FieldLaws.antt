@@ -6,7 +6,7 @@ use mathlib.Core.List.{List, []}
 use Rattle.numbers.specs.Answers as paper
 use Rattle.sd_format.specs.Fields.{asked, of-address, of-load-balancing, of-configuration, address-bytes, protocol, port, priority, weight, string}
 use Rattle.sd_option.specs.Reading.{head-said}
-use Rattle.sd_option.specs.Fields.{size-asked}
+use Rattle.sd_field.specs.Fields.{size-asked}
 use Rattle.sd_option.specs.declared.reading.OptionHead.{OptionHead}
 use Rattle.sd_entry.specs.Said.{saidHead, saidGroup}
 use Rattle.sd_entry.specs.declared.EntryHead.{EntryHead}

@@ -8,7 +8,7 @@ use Rattle.numbers.specs.Answers.{given}
 use Rattle.numbers.specs.Answers as paper
 use Rattle.sd_format.specs.Frames.{read-option, lent, table-after, read-index}
 use Rattle.sd_format.specs.Fields.{asked, of-address, of-load-balancing, of-configuration, discardable, address-bytes, protocol, port, priority, weight, string}
-use Rattle.sd_option.specs.Fields.{size-asked}
+use Rattle.sd_field.specs.Fields.{size-asked}
 use Rattle.sd_option.specs.Reading.{Head, head-of}
 use Rattle.hub.specs.declared.answers.Answer.{Answer}
 use Rattle.hub.specs.declared.options.Option.{Option}

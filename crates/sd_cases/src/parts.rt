@@ -7,10 +7,10 @@ use sd_entry::EntryAnswer;
 use sd_entry::EntryHead;
 use sd_entry::SdEntry;
 use sd_entry::SdServiceEntryType;
+use sd_field::ByteAnswer;
+use sd_field::WordAnswer;
 use sd_index::FoundAnswer;
 use sd_index::RunCursor;
-use sd_option::fields::ByteAnswer;
-use sd_option::fields::WordAnswer;
 use sd_option::kinds::OptionKind;
 use sd_option::kinds::kind_of;
 
@@ -133,9 +133,9 @@ pub(crate) fn found(options: &[u8], answer: FoundAnswer) {
             let h = f.head;
             let s = sd_index::option_at(options, offset);
             kind(kind_of(h.code));
-            address(sd_option::fields::address(s));
-            protocol(sd_option::fields::protocol(s));
-            port(sd_option::fields::port(s));
+            address(sd_field::address(s));
+            protocol(sd_field::protocol(s));
+            port(sd_field::port(s));
         }
         FoundAnswer::Refused(refusal) => refused(refusal::numbers_of(refusal)),
     }

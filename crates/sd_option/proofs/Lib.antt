@@ -1,7 +1,3 @@
 pub mod KindLaws
 pub mod ReadingLaws
-pub mod AskedLaws
-pub mod AddressLaws
-pub mod FieldLaws
-pub mod PartLaws
 pub mod OneAnswer

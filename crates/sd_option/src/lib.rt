@@ -1,6 +1,5 @@
-// One option: its kind, its reading from the front of a slice, and its fields.
+// One option: its kind, and its reading from the front of a slice. Its fields: crate sd_field.
 mod bytes;
-pub mod fields;
 pub mod kinds;
 pub mod reading;
 

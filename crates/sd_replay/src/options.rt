@@ -7,12 +7,12 @@ use crate::answer::bit;
 use refusal::Numbers;
 use replay::add_byte;
 use replay::add_number;
+use sd_field::ByteAnswer;
+use sd_field::SizeAnswer;
+use sd_field::WordAnswer;
 use sd_index::FoundAnswer;
 use sd_index::OptionCursor;
 use sd_index::RunCursor;
-use sd_option::fields::ByteAnswer;
-use sd_option::fields::SizeAnswer;
-use sd_option::fields::WordAnswer;
 use sd_option::reading::OptionAnswer;
 use sd_option::reading::OptionHead;
 
@@ -54,12 +54,12 @@ fn add_fields(sum: u32, head: OptionHead, s: &[u8]) -> u32 {
     let coded = add_number(answered, head.code as u32);
     let sized = add_value(coded, head.size);
     let bits = add_number(sized, bit(head.discardable));
-    let first = add_number(bits, word_or_zero(sd_option::fields::priority(s)));
-    let second = add_number(first, word_or_zero(sd_option::fields::weight(s)));
-    let addressed = add_part(second, sd_option::fields::address_size(s));
-    let protocol = add_number(addressed, byte_or_zero(sd_option::fields::protocol(s)));
-    let port = add_number(protocol, word_or_zero(sd_option::fields::port(s)));
-    add_part(port, sd_option::fields::string_size(s))
+    let first = add_number(bits, word_or_zero(sd_field::priority(s)));
+    let second = add_number(first, word_or_zero(sd_field::weight(s)));
+    let addressed = add_part(second, sd_field::address_size(s));
+    let protocol = add_number(addressed, byte_or_zero(sd_field::protocol(s)));
+    let port = add_number(protocol, word_or_zero(sd_field::port(s)));
+    add_part(port, sd_field::string_size(s))
 }
 
 // The sum of what reading the option in front of `s` answered.

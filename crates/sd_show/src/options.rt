@@ -8,11 +8,11 @@ use crate::print::yes_or_no;
 use crate::words::refused;
 use config_string::ItemAnswer;
 use libc::STDOUT_FILENO;
+use sd_field::ByteAnswer;
+use sd_field::SizeAnswer;
+use sd_field::WordAnswer;
 use sd_index::FoundAnswer;
 use sd_index::RunCursor;
-use sd_option::fields::ByteAnswer;
-use sd_option::fields::SizeAnswer;
-use sd_option::fields::WordAnswer;
 use sd_option::kinds::OptionKind;
 use sd_option::kinds::kind_of;
 use sd_option::reading::OptionHead;
@@ -117,14 +117,14 @@ fn option(ordinal: usize, head: OptionHead, s: &[u8]) {
     number(ordinal);
     text(b": ");
     kind_word(kind_of(head.code));
-    address(sd_option::fields::address(s));
-    protocol(sd_option::fields::protocol(s));
-    word(b", port ", sd_option::fields::port(s));
-    word(b", priority ", sd_option::fields::priority(s));
-    word(b", weight ", sd_option::fields::weight(s));
-    unknown(sd_option::fields::unknown_size(s), head.discardable);
+    address(sd_field::address(s));
+    protocol(sd_field::protocol(s));
+    word(b", port ", sd_field::port(s));
+    word(b", priority ", sd_field::priority(s));
+    word(b", weight ", sd_field::weight(s));
+    unknown(sd_field::unknown_size(s), head.discardable);
     text(b"\n");
-    items(sd_option::fields::string(s));
+    items(sd_field::string(s));
 }
 
 // The options of a run, by its cursor.

@@ -1,0 +1,69 @@
+-- `unknown_size` meets its contract: a refused option, a known kind, all bytes after the first. Assumes nothing.
+use native.Mathlib.Omega.{arith}
+use denote.Ref.{now}
+use Rattle.sd_format.specs.Kinds.{unscanned}
+use Rattle.sd_option.specs.Reading.{head-said}
+use Rattle.sd_option.proofs.ReadingLaws.{Found, found}
+use Rattle.sd_option.proofs.KindLaws.{is-unknown, not-unknown}
+use Rattle.sd_field.proofs.AskedLaws.{size-of-refused}
+use Rattle.sd_field.proofs.FieldLaws.{unknown-size, no-unknown-size}
+use borrow.Author.Needs.{needs}
+use Rattle.sd_field.proofs.unknown_size.Statement.{statement}
+use Rattle.sd_field.proofs.unknown_size.Tie as tie
+
+-- the option that was read
+here : (c : tie.After-answer) → Found unscanned (now (c .before .before .before .before .args .s)) (head-said (c .answer .given .0 .0))
+here c = found unscanned _ (c .before .before .read-option-unscanned .result) (c .before .before .read-option-unscanned .ensures) (c .answer .given .0 .0) (c .answer .given .1)
+
+read-option-unscanned-requires : tie.Need-read-option-unscanned-requires
+read-option-unscanned-requires c κs = search needs
+
+enum-known-answer : tie.Need-enum-known-answer
+enum-known-answer c = search needs
+
+enum-told : tie.Need-enum-told
+enum-told c = search needs
+
+option-refusal-requires : tie.Need-option-refusal-requires
+option-refusal-requires c κs = search needs
+
+returns : tie.Need-returns
+returns c =
+    let b = c .before .before .before in
+    size-of-refused _ _ (b .read-option-unscanned .result) _ (c .option-refusal .result) (b .read-option-unscanned .ensures) (c .before .enum-told .given .1) (c .option-refusal .ensures)
+
+kind-of-requires : tie.Need-kind-of-requires
+kind-of-requires c κs = search needs
+
+enum-told-2 : tie.Need-enum-told-2
+enum-told-2 c = search needs
+
+returns-2 : tie.Need-returns-2
+returns-2 c =
+    let n = c .before in
+    let a = n .before .before in
+    no-unknown-size _ (a .answer .given .0 .0) (n .kind-of .result) (n .kind-of .ensures) (here a) (not-unknown (n .kind-of .result) (c .match2 .keys2))
+
+sub-t7 : tie.Need-sub-t7
+sub-t7 c = let t = here (c .before .before .before .before .before) in omega arith
+
+returns-3 : tie.Need-returns-3
+returns-3 c =
+    let n = c .before .before .before in
+    let a = n .before .before in
+    unknown-size _ (a .answer .given .0 .0) (n .kind-of .result) (n .kind-of .ensures) (here a) (is-unknown _ _ (c .before .enum-told2 .given .1))
+
+pub unknown-size-spec : {M : Type 1} → statement M
+unknown-size-spec =
+    tie.close
+    (tie.spec
+    read-option-unscanned-requires
+    enum-known-answer
+    enum-told
+    option-refusal-requires
+    returns
+    kind-of-requires
+    enum-told-2
+    returns-2
+    sub-t7
+    returns-3)
