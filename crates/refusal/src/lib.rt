@@ -91,8 +91,8 @@ fn number_of_source(source: LengthSource) -> usize
     }
 }
 
-// A number with no value, and with one to four.
-fn none(number: u8) -> Numbers
+// A number with no value, and with one to four: what those who have a number to tell make of it.
+pub fn none(number: u8) -> Numbers
     ensures { λ r. ⌜ r ≡ laid (refusal number []) ⌝ }
 {
     Numbers {
@@ -102,7 +102,7 @@ fn none(number: u8) -> Numbers
     }
 }
 
-fn one(number: u8, a: usize) -> Numbers
+pub fn one(number: u8, a: usize) -> Numbers
     ensures { λ r. ⌜ r ≡ laid (refusal number (a ∷ [])) ⌝ }
 {
     Numbers {
@@ -112,7 +112,7 @@ fn one(number: u8, a: usize) -> Numbers
     }
 }
 
-fn two(number: u8, a: usize, b: usize) -> Numbers
+pub fn two(number: u8, a: usize, b: usize) -> Numbers
     ensures { λ r. ⌜ r ≡ laid (refusal number (a ∷ b ∷ [])) ⌝ }
 {
     Numbers {
@@ -122,7 +122,7 @@ fn two(number: u8, a: usize, b: usize) -> Numbers
     }
 }
 
-fn three(number: u8, a: usize, b: usize, c: usize) -> Numbers
+pub fn three(number: u8, a: usize, b: usize, c: usize) -> Numbers
     ensures { λ r. ⌜ r ≡ laid (refusal number (a ∷ b ∷ c ∷ [])) ⌝ }
 {
     Numbers {
@@ -132,7 +132,7 @@ fn three(number: u8, a: usize, b: usize, c: usize) -> Numbers
     }
 }
 
-fn four(number: u8, a: usize, b: usize, c: usize, d: usize) -> Numbers
+pub fn four(number: u8, a: usize, b: usize, c: usize, d: usize) -> Numbers
     ensures { λ r. ⌜ r ≡ laid (refusal number (a ∷ b ∷ c ∷ d ∷ [])) ⌝ }
 {
     Numbers {

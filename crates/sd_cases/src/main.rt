@@ -7,7 +7,6 @@ use print::text;
 mod cases; // cases.rt: the bytes of the cases
 mod parts; // parts.rt: what is told of an entry and of an option
 mod payload; // payload.rt: what is told of a payload
-mod print; // print.rt: text, numbers and refusals on standard output
 
 // A configuration string.
 fn string(name: &[u8], s: &[u8]) {

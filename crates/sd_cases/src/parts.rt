@@ -1,8 +1,8 @@
 // What is told of an entry, and of an option that was looked up.
-use crate::print::number;
-use crate::print::refused;
-use crate::print::text;
-use libc::STDOUT_FILENO;
+use print::named_code;
+use print::number;
+use print::refused;
+use print::text;
 use sd_entry::EntryAnswer;
 use sd_entry::EntryHead;
 use sd_entry::SdEntry;
@@ -16,8 +16,7 @@ use sd_option::kinds::kind_of;
 
 // The head of an entry.
 fn head(h: EntryHead) {
-    text(b" of service 0x");
-    io::print_hex(STDOUT_FILENO, h.service_id as u64, 4);
+    named_code(b" of service ", h.service_id as u64, 4);
     text(b", TTL ");
     number(h.ttl as usize);
     text(b", run 1 of ");

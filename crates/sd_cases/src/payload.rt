@@ -1,9 +1,9 @@
 // What is told of a payload: the answer, and its first entry with the first option of that entry's run 1.
 use crate::parts::entry;
 use crate::parts::found;
-use crate::print::number;
-use crate::print::refused;
-use crate::print::text;
+use print::number;
+use print::refused;
+use print::text;
 use sd_index::SLOTS;
 use sd_index::Settings;
 use sd_payload::PayloadAnswer;

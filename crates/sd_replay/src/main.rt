@@ -6,7 +6,6 @@ use print::text;
 mod answer; // answer.rt: answers as numbers, and in a sum
 mod entries; // entries.rt: entries in a sum
 mod options; // options.rt: options, runs and tables in a sum
-mod print; // print.rt: text and numbers on standard output
 mod step; // step.rt: one record
 mod tally; // tally.rt: what agreed, counted and printed
 

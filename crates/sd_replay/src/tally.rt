@@ -1,6 +1,6 @@
 // What agreed, counted by kind and by answer: a refusal at its number, a string's error and the kinds at places of their own.
 ghost use Prim.Native.Nat.{_≤_};
-use crate::print::line;
+use print::line;
 use replay::byte;
 use replay::count;
 

@@ -1,9 +1,9 @@
 // The entries, each with the options of its two runs.
 use crate::options::run;
-use crate::print::named;
-use crate::print::named_code;
-use crate::print::text;
-use crate::print::yes_or_no;
+use print::named;
+use print::named_code;
+use print::text;
+use print::yes_or_no;
 use sd_entry::EntryAnswer;
 use sd_entry::EntryCursor;
 use sd_entry::EntryHead;

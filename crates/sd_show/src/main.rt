@@ -8,7 +8,6 @@ mod entries; // entries.rt: the entries with their runs
 mod input; // input.rt: raw bytes or hex text
 mod options; // options.rt: one option, and the options of a run
 mod payload; // payload.rt: a whole payload or message
-mod print; // print.rt: text and numbers on standard output
 mod words; // words.rt: a refusal in words
 
 // More bytes than a message of service discovery has, as hex text with a space between any two digits: what is longer is none.

@@ -1,13 +1,13 @@
 // An option, and the options of a run.
-use crate::print::bytes;
-use crate::print::coded;
-use crate::print::named;
-use crate::print::number;
-use crate::print::text;
-use crate::print::yes_or_no;
 use crate::words::refused;
 use config_string::ItemAnswer;
 use libc::STDOUT_FILENO;
+use print::bytes;
+use print::coded;
+use print::named;
+use print::number;
+use print::text;
+use print::yes_or_no;
 use sd_field::ByteAnswer;
 use sd_field::SizeAnswer;
 use sd_field::WordAnswer;

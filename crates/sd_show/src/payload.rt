@@ -1,9 +1,9 @@
 // A payload, or a message with its header: what is in it, or why it is refused.
 use crate::entries;
-use crate::print::named;
-use crate::print::text;
-use crate::print::yes_or_no;
 use crate::words::refused;
+use print::named;
+use print::text;
+use print::yes_or_no;
 use sd_index::SLOTS;
 use sd_index::Settings;
 use sd_payload::PayloadAnswer;

@@ -1,7 +1,7 @@
 // A refusal in words: document 01's number, and its values by name.
-use crate::print::named;
-use crate::print::named_code;
-use crate::print::text;
+use print::named;
+use print::named_code;
+use print::text;
 use refusal::LengthSource;
 use refusal::Refusal;
 use refusal::StringError;

@@ -11,8 +11,6 @@ ghost use mathlib.Core.Path.{_≡_};
 ghost use Prim.Native.Nat.{_≤_};
 ghost use lib.ListN.{length};
 
-mod print; // print.rt: numbers and answers in words
-
 // Room for a report of 64 bytes of payload.
 const ROOM: usize = 80;
 

@@ -4,7 +4,6 @@ use print::line;
 use print::text;
 use tp_stream::TpStream;
 
-mod print; // print.rt: text and numbers on standard output
 mod state; // state.rt: whether a stream is as recorded
 mod step; // step.rt: one record
 mod tally; // tally.rt: what agreed, counted and printed

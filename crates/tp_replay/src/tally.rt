@@ -1,7 +1,7 @@
 // What agreed, counted by its answer: at a refusal's number, and for the rest at places of their own.
-use crate::print::line;
 use crate::step::BEGIN;
 use crate::step::CLEAR;
+use print::line;
 use replay::byte;
 use replay::check;
 use replay::count;

@@ -3,8 +3,8 @@
 use Prim.Native.Nat.{_-_, _≤_}
 use lib.ListN.{length}
 use borrow.Author.Needs.{needs}
-use Rattle.sd_show.proofs.print.bytes.Statement.{statement}
-use Rattle.sd_show.proofs.print.bytes.Tie as tie
+use Rattle.print.proofs.bytes.Statement.{statement}
+use Rattle.print.proofs.bytes.Tie as tie
 
 abbrev Inv-loop : tie.InvT-loop
 Inv-loop s i₀ i = i ≤ length s
