@@ -4,13 +4,13 @@ use mathlib.Core.Bool.{Bool, _&&_}
 use lib.Dec.{eqb, leb}
 use Rattle.numbers.specs.Refusals.{empty-key, only-whitespace}
 use Rattle.numbers.specs.Answers.{Verdict, pass, refused, refuse_when_else_}
-use Rattle.refusal.specs.Said.{saidString}
+use Rattle.refusal.specs.Said.{string-said}
 use Rattle.config_string.specs.declared.StringAnswer.{StringAnswer}
 use Rattle.config_string.specs.declared.StringAnswer.the-variants.{Valid, Refused}
 
 abbrev pub answered : StringAnswer → Verdict
 answered Valid = pass
-answered (Refused error) = refused (saidString error)
+answered (Refused error) = refused (string-said error)
 
 -- ---- two parts of the key rule, for the functions inside that answer them
 

@@ -22,9 +22,9 @@ next-item s at =
 abbrev pub past : (at : ℕ) → List ℕ → ℕ
 past at item = at + (1 + length item)
 
-abbrev pub itemAnswered : ItemAnswer → Answer ℕ
-itemAnswered (Item next) = accepted next
-itemAnswered (Refused r) = refused (said r)
+abbrev pub item-said : ItemAnswer → Answer ℕ
+item-said (Item next) = accepted next
+item-said (Refused r) = refused (said r)
 
 -- a refusal hands back an empty part
 abbrev pub part-of : Answer (List ℕ) → List ℕ

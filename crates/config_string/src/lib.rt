@@ -8,7 +8,7 @@ ghost use lib.Dec.{eqb};
 ghost use Rattle.numbers.specs.Answers.{given, verdict};
 ghost use Rattle.sd_format.specs.Strings.{key-of, judge-key, judge-item, closed, read-string};
 ghost use Rattle.config_string.specs.Answered.{answered, key-byte, judge-end};
-ghost use Rattle.config_string.specs.Items.{next-item, past, itemAnswered, part-of};
+ghost use Rattle.config_string.specs.Items.{next-item, past, item-said, part-of};
 
 // What a string is found to be, and an item or a key of it. Below, `at` is the place of the item's length byte, which the errors give.
 pub enum StringAnswer {
@@ -130,7 +130,7 @@ pub enum ItemAnswer {
 
 // The item at a place of a string: where the next one stands; 20 at the terminator and with no bytes left.
 pub fn next_item(s: &[u8], at: usize) -> ItemAnswer
-    ensures { λ r. ⌜ itemAnswered r ≡ given (past at) (next-item (now (s .entry)) at) ⌝ }
+    ensures { λ r. ⌜ item-said r ≡ given (past at) (next-item (now (s .entry)) at) ⌝ }
 {
     if s.len() <= at {
         return ItemAnswer::Refused(Refusal::NothingThere);

@@ -8,7 +8,7 @@ use Rattle.sd_format.specs.Fields.{asked, of-address, of-load-balancing, of-con
 use Rattle.sd_option.specs.Reading.{head-said}
 use Rattle.sd_field.specs.Fields.{size-asked}
 use Rattle.sd_option.specs.declared.reading.OptionHead.{OptionHead}
-use Rattle.sd_entry.specs.Said.{saidHead, saidGroup}
+use Rattle.sd_entry.specs.Said.{head-said, group-said}
 use Rattle.sd_entry.specs.declared.EntryHead.{EntryHead}
 use Rattle.sd_entry.specs.declared.EventGroup.{EventGroup}
 use Rattle.hub.specs.declared.answers.Answer.{Answer}
@@ -36,7 +36,7 @@ pub fields-made : (code : ℕ) (h : EntryHead) (minor : ℕ) (g : EventGroup) (a
       reserved = g .reserved;
       spare = g .spare;
     }
-    ≡ fields code (saidHead h) minor (saidGroup g)
+    ≡ fields code (head-said h) minor (group-said g)
 fields-made code h minor g a b p q =
     λ i. record {
       answer = p i;

@@ -9,7 +9,7 @@ use Rattle.numbers.specs.Refusals.{malformed-state}
 use Rattle.numbers.proofs.AnswerLaws.{when-hit}
 use Rattle.numbers.specs.Answers as paper
 use Rattle.sd_format.specs.Payload.{Reading}
-use Rattle.tp_machine.specs.Machine.{Out, step, judged, badState}
+use Rattle.tp_machine.specs.Machine.{Out, step, judged, bad-state}
 use Rattle.tp_machine.proofs.Steps.{step-refused}
 use Rattle.tp_stream.specs.declared.TpStream.{TpStream}
 use Rattle.tp_stream.specs.Stream.{view, blank, held}
@@ -45,8 +45,8 @@ clear-only ws r q v w a b = (same (a .answers) (b .answers), same (a .words) (b 
 -- ---- words that are unfit
 
 -- the state that they hold is malformed
-outside-bad : badState (view outside) ≡ true
-unfolding badState held blank
+outside-bad : bad-state (view outside) ≡ true
+unfolding bad-state held blank
 outside-bad = refl
 
 holds-outside : (ws : List ℕ) → unfit ws ≡ true → stream-of ws ≡ outside
@@ -57,9 +57,9 @@ holds-outside ws e = ap (λ (b : Bool). cond b outside (held-in ws)) e
 pub unfit-consume : (ws seg buf : List ℕ) (r : Answer) (ws′ buf′ : List ℕ) → unfit ws ≡ true → Consumes ws seg buf r ws′ buf′ → (r ≡ row 38 []) × (ws′ ≡ ws) × (buf′ ≡ buf)
 unfolding judged
 unfit-consume ws seg buf r ws′ buf′ e c =
-    let bad : badState (state-of ws) ≡ true = ap (λ (s : TpStream). badState (view s)) (holds-outside ws e) ∙ outside-bad in
+    let bad : bad-state (state-of ws) ≡ true = ap (λ (s : TpStream). bad-state (view s)) (holds-outside ws e) ∙ outside-bad in
     let left : step (state-of ws) seg buf ≡ record { answer = paper.refused malformed-state; state = state-of ws; buffer = buf } =
-    step-refused (state-of ws) seg buf malformed-state (when-hit malformed-state (badState (state-of ws)) _ bad) in (
+    step-refused (state-of ws) seg buf malformed-state (when-hit malformed-state (bad-state (state-of ws)) _ bad) in (
       c .answers ∙ ap (λ (o : Out). told no-values (o .answer)) left,
       c .words ∙ ap (λ (o : Out). kept ws (o .answer) (o .state)) left,
       c .buffer ∙ ap (λ (o : Out). o .buffer) left,

@@ -13,7 +13,7 @@ use sd_entry::SdServiceEntryType;
 use sd_entry::read_entry;
 ghost use mathlib.Core.Path.{_≡_};
 ghost use Rattle.sd_format.specs.Entries.{read-entry, next-entry};
-ghost use Rattle.sd_entry.specs.Said.{saidHead, saidGroup, saidService, saidEventgroup, saidEntry, saidAnswer};
+ghost use Rattle.sd_entry.specs.Said.{head-said, group-said, service-said, eventgroup-said, entry-said, answer-said};
 ghost use Rattle.hub.specs.Entries.{no-group, fields, entry-fields, no-entry, entry-told};
 
 // One entry: the answer of its reading, and then its fields. Those that its kind has not hold 0, and so do all after a refusal.
@@ -63,7 +63,7 @@ fn no_entry(answer: Answer) -> Entry
 
 // The fields of an entry of type `code`.
 fn fields_of(code: u64, head: EntryHead, minor: u32, group: EventGroup) -> Entry
-    ensures { λ r. ⌜ r ≡ fields code (saidHead head) minor (saidGroup group) ⌝ }
+    ensures { λ r. ⌜ r ≡ fields code (head-said head) minor (group-said group) ⌝ }
 {
     Entry {
         answer: none(0),
@@ -87,7 +87,7 @@ fn fields_of(code: u64, head: EntryHead, minor: u32, group: EventGroup) -> Entry
 
 // The fields of a service entry.
 fn service_fields(entry_type: SdServiceEntryType, head: EntryHead, minor: u32) -> Entry
-    ensures { λ r. ⌜ r ≡ entry-fields (saidService «entry_type» (saidHead head) minor) ⌝ }
+    ensures { λ r. ⌜ r ≡ entry-fields (service-said «entry_type» (head-said head) minor) ⌝ }
 {
     let group = EventGroup {
         reserved: 0,
@@ -104,7 +104,7 @@ fn service_fields(entry_type: SdServiceEntryType, head: EntryHead, minor: u32) -
 
 // The fields of an eventgroup entry.
 fn eventgroup_fields(entry_type: EventGroupEntryType, head: EntryHead, group: EventGroup) -> Entry
-    ensures { λ r. ⌜ r ≡ entry-fields (saidEventgroup «entry_type» (saidHead head) (saidGroup group)) ⌝ }
+    ensures { λ r. ⌜ r ≡ entry-fields (eventgroup-said «entry_type» (head-said head) (group-said group)) ⌝ }
 {
     match entry_type {
         EventGroupEntryType::SubscribeOrStop => fields_of(0x06, head, 0, group),
@@ -114,7 +114,7 @@ fn eventgroup_fields(entry_type: EventGroupEntryType, head: EntryHead, group: Ev
 
 // The fields of an entry.
 fn entry_fields(entry: SdEntry) -> Entry
-    ensures { λ r. ⌜ r ≡ entry-fields (saidEntry entry) ⌝ }
+    ensures { λ r. ⌜ r ≡ entry-fields (entry-said entry) ⌝ }
 {
     match entry {
         SdEntry::Service {
@@ -132,7 +132,7 @@ fn entry_fields(entry: SdEntry) -> Entry
 
 // The answer of reading an entry, with its fields.
 fn entry_answer(answer: EntryAnswer) -> Entry
-    ensures { λ r. ⌜ r ≡ entry-told (saidAnswer answer) ⌝ }
+    ensures { λ r. ⌜ r ≡ entry-told (answer-said answer) ⌝ }
 {
     match answer {
         EntryAnswer::Good(entry) => entry_fields(entry),

@@ -8,9 +8,9 @@ ghost use mathlib.Core.Path.{_≡_};
 ghost use Prim.Native.Nat.{_≤_};
 ghost use mathlib.Core.List.{_∷_, _++_};
 ghost use lib.ListN.{length, take, drop};
-ghost use Rattle.tp_machine.specs.Machine.{most, previous, fresh as freshOf};
+ghost use Rattle.tp_machine.specs.Machine.{most, previous, fresh as fresh-of};
 ghost use Rattle.tp_stream.specs.Stream.{stored, blank};
-ghost use Rattle.hub.specs.Words.{size, end-of, outside as outsideOf, held-in, stream-of, known, flat, words-of, put as putOf};
+ghost use Rattle.hub.specs.Words.{size, end-of, outside as outside-of, held-in, stream-of, known, flat, words-of, put as put-of};
 
 // As many words as a state has.
 pub const WORDS: usize = 4 + 2 * MAX_RANGES;
@@ -47,7 +47,7 @@ fn number_of(end: TpEnd) -> u32
 
 // A stream that holds nothing.
 pub(crate) fn fresh(limit: u32) -> TpStream
-    ensures { λ r. ⌜ r ≡ stored blank (freshOf limit) ⌝ }
+    ensures { λ r. ⌜ r ≡ stored blank (fresh-of limit) ⌝ }
 {
     let none = TpRange { start: 0, end: 0 };
     let ranges = [none; MAX_RANGES];
@@ -61,7 +61,7 @@ pub(crate) fn fresh(limit: u32) -> TpStream
 
 // A stream that is malformed.
 fn outside() -> TpStream
-    ensures { λ r. ⌜ r ≡ outsideOf ⌝ }
+    ensures { λ r. ⌜ r ≡ outside-of ⌝ }
 {
     let none = TpRange { start: 0, end: 0 };
     let ranges = [none; MAX_RANGES];
@@ -137,7 +137,7 @@ fn put_front(words: &mut [u32], a: u32, b: u32, c: u32, d: u32)
 // A stream into the words that were lent; too few are left alone.
 pub(crate) fn put(words: &mut [u32], stream: TpStream)
     requires { ⌜ stream .count ≤ most ⌝ }
-    ensures { λ _. ⌜ now (words .exit) ≡ putOf (now (words .entry)) stream ⌝ }
+    ensures { λ _. ⌜ now (words .exit) ≡ put-of (now (words .entry)) stream ⌝ }
 {
     if words.len() < WORDS {
         return;

@@ -6,10 +6,10 @@ use Rattle.numbers.specs.Refusals.{refusal}
 use Rattle.refusal.specs.declared.StringError.{StringError}
 use Rattle.refusal.specs.declared.Refusal.{Refusal}
 use Rattle.refusal.specs.declared.Numbers.{Numbers}
-use Rattle.refusal.specs.Said.{said, saidString, laid}
+use Rattle.refusal.specs.Said.{said, string-said, laid}
 
-pub string-arm : {n : Numbers} {e here : StringError} → n ≡ laid (saidString here) → e ≡ here → n ≡ laid (saidString e)
-string-arm made same = made ∙ sym (ap (λ (e : StringError). laid (saidString e)) same)
+pub string-arm : {n : Numbers} {e here : StringError} → n ≡ laid (string-said here) → e ≡ here → n ≡ laid (string-said e)
+string-arm made same = made ∙ sym (ap (λ (e : StringError). laid (string-said e)) same)
 
 pub arm : {n : Numbers} {r here : Refusal} → n ≡ laid (said here) → r ≡ here → n ≡ laid (said r)
 arm made same = made ∙ sym (ap (λ (r : Refusal). laid (said r)) same)

@@ -11,7 +11,7 @@ use Rattle.refusal.specs.declared.StringError.{StringError}
 use Rattle.refusal.specs.declared.StringError.the-variants as string
 use Rattle.refusal.specs.declared.Refusal.{Refusal}
 use Rattle.refusal.specs.declared.Refusal.the-variants as code
-use Rattle.refusal.specs.Said.{said, saidString}
+use Rattle.refusal.specs.Said.{said, string-said}
 
 -- ---- back from a number and its values, `v`; anything for what is never said
 
@@ -57,7 +57,7 @@ value r i = getD (r .values) i 0
 
 -- ---- and that it leads back
 
-string-back : (error : StringError) → string-of (value (saidString error)) ≡ error
+string-back : (error : StringError) → string-of (value (string-said error)) ≡ error
 unfolding string-of value
 string-back string.MissingTerminator = refl
 string-back (string.ItemLengthExceedsRemaining b c d) = refl
@@ -67,7 +67,7 @@ string-back (string.InvalidKeyByte b c d) = refl
 string-back (string.KeyContainsOnlyWhitespace b) = refl
 
 -- every error of a string has the number 9
-nine : (error : StringError) → saidString error .number ≡ 9
+nine : (error : StringError) → string-said error .number ≡ 9
 nine string.MissingTerminator = refl
 nine (string.ItemLengthExceedsRemaining b c d) = refl
 nine (string.TrailingDataAfterTerminator b) = refl
@@ -101,7 +101,7 @@ back code.NothingThere = refl
 back code.TableMisfit = refl
 back (code.FewSlots a) = refl
 
-pub string-one-to-one : (x y : StringError) → saidString x ≡ saidString y → x ≡ y
+pub string-one-to-one : (x y : StringError) → string-said x ≡ string-said y → x ≡ y
 string-one-to-one x y same = sym (string-back x) ∙ ap (λ (r : paper.Refusal). string-of (value r)) same ∙ string-back y
 
 pub one-to-one : (x y : Refusal) → said x ≡ said y → x ≡ y

@@ -16,13 +16,13 @@ abbrev pub source-number : LengthSource → ℕ
 source-number Slice = 0
 source-number OptionLength = 1
 
-abbrev pub saidString : StringError → paper.Refusal
-saidString string.MissingTerminator = paper.missing-terminator
-saidString (string.ItemLengthExceedsRemaining item len remaining) = paper.item-too-long item len remaining
-saidString (string.TrailingDataAfterTerminator terminator) = paper.trailing-data terminator
-saidString (string.EmptyKey item) = paper.empty-key item
-saidString (string.InvalidKeyByte item byte value) = paper.invalid-key-byte item byte value
-saidString (string.KeyContainsOnlyWhitespace item) = paper.only-whitespace item
+abbrev pub string-said : StringError → paper.Refusal
+string-said string.MissingTerminator = paper.missing-terminator
+string-said (string.ItemLengthExceedsRemaining item len remaining) = paper.item-too-long item len remaining
+string-said (string.TrailingDataAfterTerminator terminator) = paper.trailing-data terminator
+string-said (string.EmptyKey item) = paper.empty-key item
+string-said (string.InvalidKeyByte item byte value) = paper.invalid-key-byte item byte value
+string-said (string.KeyContainsOnlyWhitespace item) = paper.only-whitespace item
 
 abbrev pub said : Refusal → paper.Refusal
 said (code.UnexpectedEndOfSlice needed) = paper.unexpected-end needed
@@ -33,7 +33,7 @@ said (code.PayloadTooLarge len) = paper.payload-too-large len
 said (code.PayloadLengthMismatch expected actual) = paper.length-mismatch expected actual
 said (code.OptionLength needed had source) = paper.option-length needed had (source-number source)
 said code.OptionLengthZero = paper.option-length-zero
-said (code.ConfigurationString error) = saidString error
+said (code.ConfigurationString error) = string-said error
 said (code.UnknownOption type) = paper.unknown-option type
 said (code.UnknownEntry type) = paper.unknown-entry type
 said (code.RunOutOfBounds run start count options) = paper.run-out-of-bounds run start count options

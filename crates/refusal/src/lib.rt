@@ -3,7 +3,7 @@
 ghost use mathlib.Core.Path.{_≡_};
 ghost use mathlib.Core.List.{[], _∷_};
 ghost use Rattle.numbers.specs.Refusals.{refusal};
-ghost use Rattle.refusal.specs.Said.{said, saidString, source-number, laid};
+ghost use Rattle.refusal.specs.Said.{said, string-said, source-number, laid};
 
 // What gave the length that an option was judged by.
 pub enum LengthSource {
@@ -144,7 +144,7 @@ pub fn four(number: u8, a: usize, b: usize, c: usize, d: usize) -> Numbers
 
 // The number and the values of a string's error: 9, which of the six it is, and its numbers.
 pub fn numbers_of_string(error: StringError) -> Numbers
-    ensures { λ r. ⌜ r ≡ laid (saidString error) ⌝ }
+    ensures { λ r. ⌜ r ≡ laid (string-said error) ⌝ }
 {
     match error {
         StringError::MissingTerminator => one(9, 1),

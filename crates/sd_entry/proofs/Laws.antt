@@ -16,7 +16,7 @@ use Rattle.numbers.proofs.AnswerLaws.{when-hit, when-pass, when-accepted, bind-
 use Rattle.sd_format.specs.Sequences.{next-at, behind, stands}
 use Rattle.sd_format.specs.Options.{has}
 use Rattle.sd_format.specs.Entries.{Head, Group, Entry, find, offer, subscribe, subscribe-ack, head-of, head, group, minor, by-type, read-entry, sixteen, next-entry, inside, judge-runs, placed-entry}
-use Rattle.sd_entry.specs.Said.{saidHead, saidEntry, saidAnswer, only-runs}
+use Rattle.sd_entry.specs.Said.{head-said, entry-said, answer-said, only-runs}
 use Rattle.sd_entry.specs.Steps.{Stepped}
 use Rattle.sd_entry.specs.declared.SdServiceEntryType.the-variants.{FindService, OfferService}
 use Rattle.sd_entry.specs.declared.EventGroupEntryType.the-variants.{SubscribeOrStop, SubscribeAckOrNack}
@@ -113,10 +113,10 @@ abbrev head-field : SdEntry → EntryHead
 head-field (Service type h m) = h
 head-field (Eventgroup type h g) = h
 
-pub head-said : {e here : SdEntry} → e ≡ here → saidHead (head-field here) ≡ head-of (saidEntry e)
-head-said {e} this = ap (λ (x : SdEntry). saidHead (head-field x)) (sym this) ∙ by-kind e
+pub head-field-said : {e here : SdEntry} → e ≡ here → head-said (head-field here) ≡ head-of (entry-said e)
+head-field-said {e} this = ap (λ (x : SdEntry). head-said (head-field x)) (sym this) ∙ by-kind e
   where
-    by-kind : (e : SdEntry) → saidHead (head-field e) ≡ head-of (saidEntry e)
+    by-kind : (e : SdEntry) → head-said (head-field e) ≡ head-of (entry-said e)
     by-kind (Service FindService h m) = refl
     by-kind (Service OfferService h m) = refl
     by-kind (Eventgroup SubscribeOrStop h g) = refl
@@ -205,14 +205,14 @@ module _ (s : List ℕ) (at : ℕ) where
       when-pass _ _ _ (lt-leb (length s) at h) ∙ ap read-entry (sym (take-all (length s - at) (drop at s) left))
 
 -- a step: the answer, and where the cursor stands by it
-pub stepped : (s : List ℕ) (at : ℕ) (a : EntryAnswer) {place : ℕ} → saidAnswer a ≡ next-entry s at → place ≡ stands (behind sixteen) (saidAnswer a) at
+pub stepped : (s : List ℕ) (at : ℕ) (a : EntryAnswer) {place : ℕ} → answer-said a ≡ next-entry s at → place ≡ stands (behind sixteen) (answer-said a) at
     → Stepped s at (record { answer = a; cursor = record { at = place } })
 stepped s at a answer place = record { answer = answer; cursor = place ∙ ap (λ (x : Answer Entry). stands (behind sixteen) x at) answer }
 
 -- a cursor that handed out an entry still stands within the bytes or at their end
-pub step-fits : (s : List ℕ) (at : ℕ) (a : EntryAnswer) (e : SdEntry) → saidAnswer a ≡ read-entry (take (length s - at) (drop at s)) → a ≡ Good e
+pub step-fits : (s : List ℕ) (at : ℕ) (a : EntryAnswer) (e : SdEntry) → answer-said a ≡ read-entry (take (length s - at) (drop at s)) → a ≡ Good e
     → at < length s → at + 16 ≤ length s
 step-fits s at a e read this within =
     let left : length (take (length s - at) (drop at s)) ≤ length s - at = omega (arith, length-take (length s - at) (drop at s)) in
-    let long = read-long (take (length s - at) (drop at s)) (saidEntry e) (sym read ∙ ap saidAnswer this) in
+    let long = read-long (take (length s - at) (drop at s)) (entry-said e) (sym read ∙ ap answer-said this) in
     omega arith

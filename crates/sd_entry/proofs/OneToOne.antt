@@ -8,7 +8,7 @@ use Rattle.numbers.specs.Answers.{Answer, accepted, refused, Verdict, verdict}
 use Rattle.numbers.proofs.AnswerLaws.{accepted-inj, not-refused}
 use Rattle.sd_format.specs.Entries.{Head, Group, Entry, find, offer, subscribe, subscribe-ack, head-of, read-entry, judge-runs, placed-entry}
 use Rattle.refusal.proofs.OneToOne.{one-to-one}
-use Rattle.sd_entry.specs.Said.{saidHead, saidGroup, saidEntry, saidAnswer, saidVerdict}
+use Rattle.sd_entry.specs.Said.{head-said, group-said, entry-said, answer-said, verdict-said}
 use Rattle.sd_entry.specs.Steps.{Stepped}
 use Rattle.sd_entry.specs.declared.SdServiceEntryType.the-variants.{FindService, OfferService}
 use Rattle.sd_entry.specs.declared.EventGroupEntryType.the-variants.{SubscribeOrStop, SubscribeAckOrNack}
@@ -54,7 +54,7 @@ entry-back (offer h m) = Service OfferService (head-back h) m
 entry-back (subscribe h g) = Eventgroup SubscribeOrStop (head-back h) (group-back g)
 entry-back (subscribe-ack h g) = Eventgroup SubscribeAckOrNack (head-back h) (group-back g)
 
-back : (e : SdEntry) → entry-back (saidEntry e) ≡ e
+back : (e : SdEntry) → entry-back (entry-said e) ≡ e
 unfolding entry-back head-back group-back
 back (Service FindService h m) = refl
 back (Service OfferService h m) = refl
@@ -63,23 +63,23 @@ back (Eventgroup SubscribeAckOrNack h g) = refl
 
 -- ---- one-to-one
 
-pub head-one-to-one : (x y : EntryHead) → saidHead x ≡ saidHead y → x ≡ y
+pub head-one-to-one : (x y : EntryHead) → head-said x ≡ head-said y → x ≡ y
 unfolding head-back
 head-one-to-one x y same = ap head-back same
 
-pub entry-one-to-one : (x y : SdEntry) → saidEntry x ≡ saidEntry y → x ≡ y
+pub entry-one-to-one : (x y : SdEntry) → entry-said x ≡ entry-said y → x ≡ y
 entry-one-to-one x y same = sym (back x) ∙ ap entry-back same ∙ back y
 
 refused-inj : {A : Type 0} (r q : Refusal) → _≡_ {A = Answer A} (refused r) (refused q) → r ≡ q
 refused-inj r q e = cc
 
-pub answer-one-to-one : (x y : EntryAnswer) → saidAnswer x ≡ saidAnswer y → x ≡ y
+pub answer-one-to-one : (x y : EntryAnswer) → answer-said x ≡ answer-said y → x ≡ y
 answer-one-to-one (Good d) (Good e) same = ap Good (entry-one-to-one d e (accepted-inj _ _ same))
 answer-one-to-one (Good d) (Refused q) same = not-refused _ _ (sym same)
 answer-one-to-one (Refused r) (Good e) same = not-refused _ _ same
 answer-one-to-one (Refused r) (Refused q) same = ap Refused (one-to-one r q (refused-inj _ _ same))
 
-pub verdict-one-to-one : (x y : EntryVerdict) → saidVerdict x ≡ saidVerdict y → x ≡ y
+pub verdict-one-to-one : (x y : EntryVerdict) → verdict-said x ≡ verdict-said y → x ≡ y
 verdict-one-to-one judged.Passed judged.Passed same = refl
 verdict-one-to-one judged.Passed (judged.Refused q) same = not-refused _ _ (sym same)
 verdict-one-to-one (judged.Refused r) judged.Passed same = not-refused _ _ same
@@ -87,16 +87,16 @@ verdict-one-to-one (judged.Refused r) (judged.Refused q) same = ap judged.Refuse
 
 -- ---- any two outcomes that a promise allows are the same
 
-pub read-entry-only : (s : List ℕ) (x y : EntryAnswer) → saidAnswer x ≡ read-entry s → saidAnswer y ≡ read-entry s → x ≡ y
+pub read-entry-only : (s : List ℕ) (x y : EntryAnswer) → answer-said x ≡ read-entry s → answer-said y ≡ read-entry s → x ≡ y
 read-entry-only s x y p q = answer-one-to-one x y (p ∙ sym q)
 
-pub head-only : (e : SdEntry) (x y : EntryHead) → saidHead x ≡ head-of (saidEntry e) → saidHead y ≡ head-of (saidEntry e) → x ≡ y
+pub head-only : (e : SdEntry) (x y : EntryHead) → head-said x ≡ head-of (entry-said e) → head-said y ≡ head-of (entry-said e) → x ≡ y
 head-only e x y p q = head-one-to-one x y (p ∙ sym q)
 
-pub judge-runs-only : (n : ℕ) (h : EntryHead) (x y : EntryVerdict) → saidVerdict x ≡ judge-runs n (saidHead h) → saidVerdict y ≡ judge-runs n (saidHead h) → x ≡ y
+pub judge-runs-only : (n : ℕ) (h : EntryHead) (x y : EntryVerdict) → verdict-said x ≡ judge-runs n (head-said h) → verdict-said y ≡ judge-runs n (head-said h) → x ≡ y
 judge-runs-only n h x y p q = verdict-one-to-one x y (p ∙ sym q)
 
-pub judge-entry-only : (n : ℕ) (s : List ℕ) (x y : EntryVerdict) → saidVerdict x ≡ verdict (placed-entry n s) → saidVerdict y ≡ verdict (placed-entry n s) → x ≡ y
+pub judge-entry-only : (n : ℕ) (s : List ℕ) (x y : EntryVerdict) → verdict-said x ≡ verdict (placed-entry n s) → verdict-said y ≡ verdict (placed-entry n s) → x ≡ y
 judge-entry-only n s x y p q = verdict-one-to-one x y (p ∙ sym q)
 
 pub next-only : (s : List ℕ) (at : ℕ) (x y : EntryStep) → Stepped s at x → Stepped s at y → x ≡ y

@@ -16,8 +16,8 @@ use Rattle.sd_entry.specs.declared.EntryAnswer.the-variants.{Good, Refus
 use Rattle.sd_entry.specs.declared.runs.EntryVerdict.{EntryVerdict}
 use Rattle.sd_entry.specs.declared.runs.EntryVerdict.the-variants as judged
 
-abbrev pub saidHead : EntryHead → Head
-saidHead h =
+abbrev pub head-said : EntryHead → Head
+head-said h =
     record {
       start1 = h .«start_index_options_1»;
       start2 = h .«start_index_options_2»;
@@ -29,8 +29,8 @@ saidHead h =
       ttl = h .ttl;
     }
 
-abbrev pub saidGroup : EventGroup → Group
-saidGroup g =
+abbrev pub group-said : EventGroup → Group
+group-said g =
     record {
       reserved = g .reserved;
       initial-data = g .«initial_data_requested»;
@@ -39,25 +39,25 @@ saidGroup g =
       eventgroup = g .«eventgroup_id»;
     }
 
-abbrev pub saidService : SdServiceEntryType → Head → ℕ → Entry
-saidService FindService = find
-saidService OfferService = offer
+abbrev pub service-said : SdServiceEntryType → Head → ℕ → Entry
+service-said FindService = find
+service-said OfferService = offer
 
-abbrev pub saidEventgroup : EventGroupEntryType → Head → Group → Entry
-saidEventgroup SubscribeOrStop = subscribe
-saidEventgroup SubscribeAckOrNack = subscribe-ack
+abbrev pub eventgroup-said : EventGroupEntryType → Head → Group → Entry
+eventgroup-said SubscribeOrStop = subscribe
+eventgroup-said SubscribeAckOrNack = subscribe-ack
 
-abbrev pub saidEntry : SdEntry → Entry
-saidEntry (Service type h minor) = saidService type (saidHead h) minor
-saidEntry (Eventgroup type h g) = saidEventgroup type (saidHead h) (saidGroup g)
+abbrev pub entry-said : SdEntry → Entry
+entry-said (Service type h minor) = service-said type (head-said h) minor
+entry-said (Eventgroup type h g) = eventgroup-said type (head-said h) (group-said g)
 
-abbrev pub saidAnswer : EntryAnswer → Answer Entry
-saidAnswer (Good e) = accepted (saidEntry e)
-saidAnswer (Refused r) = refused (said r)
+abbrev pub answer-said : EntryAnswer → Answer Entry
+answer-said (Good e) = accepted (entry-said e)
+answer-said (Refused r) = refused (said r)
 
-abbrev pub saidVerdict : EntryVerdict → Verdict
-saidVerdict judged.Passed = pass
-saidVerdict (judged.Refused r) = refused (said r)
+abbrev pub verdict-said : EntryVerdict → Verdict
+verdict-said judged.Passed = pass
+verdict-said (judged.Refused r) = refused (said r)
 
 -- a head of two runs alone
 abbrev pub only-runs : (start1 start2 count1 count2 : ℕ) → Head

@@ -13,8 +13,8 @@ ghost use mathlib.Core.Path.{_≡_};
 ghost use Prim.Native.Nat.{_≤_};
 ghost use lib.ListN.{length};
 ghost use Rattle.numbers.specs.Answers.{accepted};
-ghost use Rattle.sd_format.specs.Entries.{head, group, «head-of», «by-type», «read-entry»};
-ghost use Rattle.sd_entry.specs.Said.{saidHead, saidGroup, saidEntry, saidAnswer};
+ghost use Rattle.sd_format.specs.Entries.{head, group, head-of, by-type, read-entry};
+ghost use Rattle.sd_entry.specs.Said.{head-said, group-said, entry-said, answer-said};
 
 // The bytes of an entry.
 pub const ENTRY_LEN: usize = 16;
@@ -71,7 +71,7 @@ pub enum EntryAnswer {
 // The head of the entry in `s`.
 fn head_of(s: &[u8]) -> EntryHead
     requires { ⌜ 16 ≤ length (now s) ⌝ }
-    ensures { λ r. ⌜ saidHead r ≡ head (now (s .entry)) ⌝ }
+    ensures { λ r. ⌜ head-said r ≡ head (now (s .entry)) ⌝ }
 {
     let counts = s[3];
     EntryHead {
@@ -89,7 +89,7 @@ fn head_of(s: &[u8]) -> EntryHead
 // The last four bytes of the eventgroup entry in `s`.
 fn group_of(s: &[u8]) -> EventGroup
     requires { ⌜ 16 ≤ length (now s) ⌝ }
-    ensures { λ r. ⌜ saidGroup r ≡ group (now (s .entry)) ⌝ }
+    ensures { λ r. ⌜ group-said r ≡ group (now (s .entry)) ⌝ }
 {
     let bits = s[13];
     EventGroup {
@@ -104,7 +104,7 @@ fn group_of(s: &[u8]) -> EventGroup
 // The service entry in `s`, of type `code`.
 fn service_entry(code: u8, s: &[u8]) -> SdEntry
     requires { ⌜ (code ≤ 1) × (16 ≤ length (now s)) ⌝ }
-    ensures { λ r. ⌜ accepted (saidEntry r) ≡ «by-type» code (now (s .entry)) ⌝ }
+    ensures { λ r. ⌜ accepted (entry-said r) ≡ by-type code (now (s .entry)) ⌝ }
 {
     let head = head_of(s);
     let minor_version = big_endian::be32(s[12], s[13], s[14], s[15]);
@@ -125,7 +125,7 @@ fn service_entry(code: u8, s: &[u8]) -> SdEntry
 // The eventgroup entry in `s`, of type `code`.
 fn eventgroup_entry(code: u8, s: &[u8]) -> SdEntry
     requires { ⌜ (6 ≤ code) × (code ≤ 7) × (16 ≤ length (now s)) ⌝ }
-    ensures { λ r. ⌜ accepted (saidEntry r) ≡ «by-type» code (now (s .entry)) ⌝ }
+    ensures { λ r. ⌜ accepted (entry-said r) ≡ by-type code (now (s .entry)) ⌝ }
 {
     let head = head_of(s);
     let group = group_of(s);
@@ -145,7 +145,7 @@ fn eventgroup_entry(code: u8, s: &[u8]) -> SdEntry
 
 // The entry in front of `s`, whose later bytes are not read; 1 with 16 below 16 bytes, then 11.
 pub fn read_entry(s: &[u8]) -> EntryAnswer
-    ensures { λ r. ⌜ saidAnswer r ≡ «read-entry» (now (s .entry)) ⌝ }
+    ensures { λ r. ⌜ answer-said r ≡ read-entry (now (s .entry)) ⌝ }
 {
     if s.len() < ENTRY_LEN {
         return EntryAnswer::Refused(Refusal::UnexpectedEndOfSlice(ENTRY_LEN));
@@ -161,7 +161,7 @@ pub fn read_entry(s: &[u8]) -> EntryAnswer
 impl SdEntry {
     // What the entry has whatever its kind.
     pub fn head(self) -> EntryHead
-        ensures { λ r. ⌜ saidHead r ≡ «head-of» (saidEntry self) ⌝ }
+        ensures { λ r. ⌜ head-said r ≡ head-of (entry-said self) ⌝ }
     {
         match self {
             SdEntry::Service {

@@ -4,8 +4,8 @@ use crate::EntryHead;
 use refusal::Refusal;
 ghost use mathlib.Core.Path.{_≡_};
 ghost use Rattle.numbers.specs.Answers.{verdict};
-ghost use Rattle.sd_format.specs.Entries.{inside, «judge-runs», «placed-entry»};
-ghost use Rattle.sd_entry.specs.Said.{saidHead, saidVerdict, «only-runs»};
+ghost use Rattle.sd_format.specs.Entries.{inside, judge-runs, placed-entry};
+ghost use Rattle.sd_entry.specs.Said.{head-said, verdict-said, only-runs};
 
 pub enum EntryVerdict {
     Passed,
@@ -24,7 +24,7 @@ fn run_inside(start: u8, count: u8, options: usize) -> bool
 
 // The verdict on two runs: 12 for run 1, then for run 2.
 fn judge_pair(start1: u8, start2: u8, count1: u8, count2: u8, options: usize) -> EntryVerdict
-    ensures { λ r. ⌜ saidVerdict r ≡ «judge-runs» options («only-runs» start1 start2 count1 count2) ⌝ }
+    ensures { λ r. ⌜ verdict-said r ≡ judge-runs options (only-runs start1 start2 count1 count2) ⌝ }
 {
     if !run_inside(start1, count1, options) {
         return EntryVerdict::Refused(Refusal::RunOutOfBounds {
@@ -47,7 +47,7 @@ fn judge_pair(start1: u8, start2: u8, count1: u8, count2: u8, options: usize) ->
 
 // The verdict on an entry's runs beside so many options: 12 for run 1, then for run 2.
 pub fn judge_runs(head: EntryHead, options: usize) -> EntryVerdict
-    ensures { λ r. ⌜ saidVerdict r ≡ «judge-runs» options (saidHead head) ⌝ }
+    ensures { λ r. ⌜ verdict-said r ≡ judge-runs options (head-said head) ⌝ }
 {
     judge_pair(
         head.start_index_options_1,
@@ -60,7 +60,7 @@ pub fn judge_runs(head: EntryHead, options: usize) -> EntryVerdict
 
 // The verdict on the entry in front of `s` beside so many options, without reading its other fields: 1 with 16, 11, 12 for run 1, 12 for run 2.
 pub fn judge_entry(s: &[u8], options: usize) -> EntryVerdict
-    ensures { λ r. ⌜ saidVerdict r ≡ verdict («placed-entry» options (now (s .entry))) ⌝ }
+    ensures { λ r. ⌜ verdict-said r ≡ verdict (placed-entry options (now (s .entry))) ⌝ }
 {
     if s.len() < ENTRY_LEN {
         return EntryVerdict::Refused(Refusal::UnexpectedEndOfSlice(ENTRY_LEN));

@@ -7,7 +7,7 @@ use native.Mathlib.Omega.{arith}
 use lib.Dec.{eqb}
 use borrow.Author.Tests.{eq-eqb, ne-eqb, eqb-true, eqb-false}
 use Rattle.sd_format.specs.Options.{First, has}
-use Rattle.sd_format.specs.Layout.{bit, layFirst}
+use Rattle.sd_format.specs.Layout.{bit, lay-first}
 
 abbrev pub num : Bool → ℕ
 num true = 1
@@ -38,9 +38,9 @@ has-num x v false e = let n : x / v % 2 ≡ 1 → ⊥ = λ h. omega arith in ne-
 pub first-again : (x : ℕ) → x < 256 → bit 0x80 (has x 0x80) + x % 128 ≡ x
 first-again x h = rw (bit-num 0x80 (has x 0x80), num-has (x / 128)) (omega arith)
 
-pub first-back : (b : First) → b .others < 128 → record { discardable = has (layFirst b) 0x80; others = layFirst b % 128 } ≡ b
+pub first-back : (b : First) → b .others < 128 → record { discardable = has (lay-first b) 0x80; others = lay-first b % 128 } ≡ b
 first-back b h =
     let n = num-small (b .discardable) in
-    let d : has (layFirst b) 0x80 ≡ b .discardable = has-num (layFirst b) 0x80 (b .discardable) (omega (arith, bit-num 0x80 (b .discardable))) in
-    let o : layFirst b % 128 ≡ b .others = omega (arith, bit-num 0x80 (b .discardable)) in
+    let d : has (lay-first b) 0x80 ≡ b .discardable = has-num (lay-first b) 0x80 (b .discardable) (omega (arith, bit-num 0x80 (b .discardable))) in
+    let o : lay-first b % 128 ≡ b .others = omega (arith, bit-num 0x80 (b .discardable)) in
     λ i. record { discardable = d i; others = o i }

@@ -17,7 +17,7 @@ use Rattle.sd_format.specs.Options.{Opt}
 use Rattle.sd_format.specs.Kinds.{Kind, configuration, load-balancing, address, unknown, kind-of}
 use Rattle.sd_format.specs.Frames.{Frame, permitted, permit, all-options, read-options, slots, lent, read-index}
 use Rattle.sd_format.specs.Fields.{fields}
-use Rattle.sd_format.specs.Layout.{OptionFits, layOptions, wire, Payload, lay, Fits, Header, layHeader}
+use Rattle.sd_format.specs.Layout.{OptionFits, lay-options, wire, Payload, lay, Fits, Header, lay-header}
 use Rattle.sd_format.specs.Payload.{Reading, read-payload, shown, handed-out, header, read-message}
 use Rattle.sd_format.specs.Demand3.{LentExactly, IndexExact, MessageExact}
 use Rattle.sd_format.proofs.OptionLaws.{read-parts, permits-all, options-lay, options-read, options-own}
@@ -68,7 +68,7 @@ index-exact s b =
             let (fs, read, own) = given-accepted (map fields) _ os e in
             let (long, all-read) = when-accepted _ _ _ _ read in
             let (fits, laid, back) = options-read any-unknown s b fs (read-parts any-unknown s fs .1 (all-read, all-always fs)) in
-            subst (λ (l : List Opt). (length s ≤ 1388) × All (OptionFits any-unknown) l × (layOptions l ≡ s)) own (ltb-false 1388 (length s) long, fits, laid)),
+            subst (λ (l : List Opt). (length s ≤ 1388) × All (OptionFits any-unknown) l × (lay-options l ≡ s)) own (ltb-false 1388 (length s) long, fits, laid)),
         (λ h.
             let read : read-options any-unknown s ≡ accepted (map wire os) = rw (← (h .2)) (options-lay any-unknown os (h .1)) in
             rw (le-ltb 1388 (length s) (h .0), read-parts any-unknown s (map wire os) .0 read .0) (ap accepted (options-own any-unknown os (h .1)))),
@@ -84,24 +84,24 @@ sixteen-again s b long =
     rw (take-tab 16 s long, be32-at s 0 b, be16-at s 0 b, be16-at s 2 b, be32-at s 4 b, be16-at s 4 b, be16-at s 6 b, be16-at s 8 b, be16-at s 10 b)
 
 header-again : (s : List ℕ) → Bytes s → 16 ≤ length s → at32 s 0 ≡ 0xffff8100 → at16 s 8 ≡ 0 → getD s 13 0 ≡ 1 → getD s 14 0 ≡ 0x02 → getD s 15 0 ≡ 0
-    → layHeader (record { length-field = at32 s 4; session = at16 s 10; protocol-version = getD s 12 0 }) ≡ take 16 s
-unfolding layHeader
+    → lay-header (record { length-field = at32 s 4; session = at16 s 10; protocol-version = getD s 12 0 }) ≡ take 16 s
+unfolding lay-header
 header-again s b long id client version type code =
     sym (λ i. be32 (id i) ++ (be32 (at32 s 4) ++ (be16 (client i) ++ (be16 (at16 s 10) ++ (getD s 12 0 ∷ version i ∷ type i ∷ code i ∷ [])))))
     ∙ sixteen-again s b long
 
 -- a header is read from its layout
-header-lay : (h : Header) (rest : List ℕ) → (h .session ≡ 0 → ⊥) → header (layHeader h ++ rest) ≡ pass
-unfolding header layHeader be32 be16 at32 at16 refuse_when_else_
+header-lay : (h : Header) (rest : List ℕ) → (h .session ≡ 0 → ⊥) → header (lay-header h ++ rest) ≡ pass
+unfolding header lay-header be32 be16 at32 at16 refuse_when_else_
 header-lay h rest some =
     let session : h .session / 256 * 256 + h .session % 256 ≡ h .session = omega arith in
-    rw (le-ltb (length (layHeader h ++ rest)) 16 (omega arith), session, ne-eqb (h .session) 0 some)
+    rw (le-ltb (length (lay-header h ++ rest)) 16 (omega arith), session, ne-eqb (h .session) 0 some)
 
 -- the header that these bytes are
 abbrev header-of : List ℕ → Header
 header-of s = record { length-field = at32 s 4; session = at16 s 10; protocol-version = getD s 12 0 }
 
-header-says : (s : List ℕ) → Bytes s → header s ≡ pass → (at16 s 10 ≡ 0 → ⊥) × (16 ≤ length s) × (layHeader (header-of s) ≡ take 16 s)
+header-says : (s : List ℕ) → Bytes s → header s ≡ pass → (at16 s 10 ≡ 0 → ⊥) × (16 ≤ length s) × (lay-header (header-of s) ≡ take 16 s)
 unfolding header
 header-says s b e =
     let (a1, e1) = when-accepted _ _ _ _ e in
@@ -117,8 +117,8 @@ header-says s b e =
       header-again s b long (eqb-true (at32 s 0) 0xffff8100 a2) (eqb-true (at16 s 8) 0 a3) (eqb-true (getD s 13 0) 1 a5) (eqb-true (getD s 14 0) 0x02 a6) (eqb-true (getD s 15 0) 0 a7),
     )
 
-length-header : (h : Header) → length (layHeader h) ≡ 16
-unfolding layHeader be32 be16
+length-header : (h : Header) → length (lay-header h) ≡ 16
+unfolding lay-header be32 be16
 length-header h = refl
 
 pub message-exact : (g : Settings) (s : List ℕ) → Bytes s → MessageExact g s
@@ -135,6 +135,6 @@ message-exact g s b =
         (λ h.
             rw (← (h .3))
             (ap (given shown) (then-pass _ _ (header-lay (h .0) (lay p) (h .1)))
-            ∙ rw (drop-at (layHeader (h .0)) (lay p) 16 (length-header (h .0))) (lay-handed g p (h .2)))),
+            ∙ rw (drop-at (lay-header (h .0)) (lay p) 16 (length-header (h .0))) (lay-handed g p (h .2)))),
       );
     }

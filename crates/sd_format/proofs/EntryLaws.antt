@@ -16,10 +16,10 @@ use Rattle.numbers.proofs.ByteLaws.{be16-at, be24-at, be32-at, tab, take-tab, a
 use Rattle.sd_format.specs.Options.{has}
 use Rattle.sd_format.specs.Entries.{Head, Group, Entry, find, offer, subscribe, subscribe-ack, head-of, head, group, minor, by-type, read-entry, inside, judge-runs, placed-entry}
 use Rattle.sd_format.specs.Demand3.{RunsRefused, first-run, second-run}
-use Rattle.sd_format.specs.Layout.{bit, layHead, layGroup, layEntry, RunFits, GroupFits, TailFits, EntryFits}
+use Rattle.sd_format.specs.Layout.{bit, lay-head, lay-group, lay-entry, RunFits, GroupFits, TailFits, EntryFits}
 
-pub length-entry : (e : Entry) → length (layEntry e) ≡ 16
-unfolding layEntry layHead layGroup be16 be24 be32
+pub length-entry : (e : Entry) → length (lay-entry e) ≡ 16
+unfolding lay-entry lay-head lay-group be16 be24 be32
 length-entry (find h m) = refl
 length-entry (offer h m) = refl
 length-entry (subscribe h g) = refl
@@ -66,8 +66,8 @@ runs-refused n h r e = go (inside n (h .start1) (h .count1)) (inside n (h .start
 
 -- ---- reading what was laid out: the head, and either tail, behind any type
 
-head-lay : (type : ℕ) (h : Head) (rest : List ℕ) → h .count2 < 16 → head (type ∷ (layHead h ++ rest)) ≡ h
-unfolding head layHead be16 be24 at16 at24
+head-lay : (type : ℕ) (h : Head) (rest : List ℕ) → h .count2 < 16 → head (type ∷ (lay-head h ++ rest)) ≡ h
+unfolding head lay-head be16 be24 at16 at24
 head-lay type h rest small =
     let c1 : (h .count1 * 16 + h .count2) / 16 ≡ h .count1 = omega arith in
     let c2 : (h .count1 * 16 + h .count2) % 16 ≡ h .count2 = omega arith in
@@ -82,8 +82,8 @@ head-lay type h rest small =
       ttl = at24-be (h .ttl) [] i;
     }
 
-minor-lay : (type : ℕ) (h : Head) (m : ℕ) (rest : List ℕ) → minor (type ∷ (layHead h ++ (be32 m ++ rest))) ≡ m
-unfolding layHead be16 be24 be32 at16 at32
+minor-lay : (type : ℕ) (h : Head) (m : ℕ) (rest : List ℕ) → minor (type ∷ (lay-head h ++ (be32 m ++ rest))) ≡ m
+unfolding lay-head be16 be24 be32 at16 at32
 minor-lay type h m rest = at32-be m []
 
 -- the byte of the initial data bit, three reserved bits and the counter
@@ -100,8 +100,8 @@ module _ (spare counter : ℕ) (s : spare < 8) (c : counter < 16) where
   counter-lay true = omega arith
   counter-lay false = omega arith
 
-group-lay : (type : ℕ) (h : Head) (g : Group) (rest : List ℕ) → GroupFits g → group (type ∷ (layHead h ++ (layGroup g ++ rest))) ≡ g
-unfolding group layHead layGroup be16 be24 at16
+group-lay : (type : ℕ) (h : Head) (g : Group) (rest : List ℕ) → GroupFits g → group (type ∷ (lay-head h ++ (lay-group g ++ rest))) ≡ g
+unfolding group lay-head lay-group be16 be24 at16
 group-lay type h g rest fits =
     λ i. record {
       reserved = g .reserved;
@@ -111,21 +111,21 @@ group-lay type h g rest fits =
       eventgroup = at16-be (g .eventgroup) [] i;
     }
 
-type-lay : (e : Entry) (rest : List ℕ) → head-of e .count2 < 16 → TailFits e → by-type (getD (layEntry e) 0 0) (layEntry e ++ rest) ≡ accepted e
-unfolding by-type layEntry layHead be16 be24
+type-lay : (e : Entry) (rest : List ℕ) → head-of e .count2 < 16 → TailFits e → by-type (getD (lay-entry e) 0 0) (lay-entry e ++ rest) ≡ accepted e
+unfolding by-type lay-entry lay-head be16 be24
 type-lay (find h m) rest small fits = ap₂ (λ x y. accepted (find x y)) (head-lay 0x00 h (be32 m ++ rest) small) (minor-lay 0x00 h m rest)
 type-lay (offer h m) rest small fits = ap₂ (λ x y. accepted (offer x y)) (head-lay 0x01 h (be32 m ++ rest) small) (minor-lay 0x01 h m rest)
-type-lay (subscribe h g) rest small fits = ap₂ (λ x y. accepted (subscribe x y)) (head-lay 0x06 h (layGroup g ++ rest) small) (group-lay 0x06 h g rest fits)
-type-lay (subscribe-ack h g) rest small fits = ap₂ (λ x y. accepted (subscribe-ack x y)) (head-lay 0x07 h (layGroup g ++ rest) small) (group-lay 0x07 h g rest fits)
+type-lay (subscribe h g) rest small fits = ap₂ (λ x y. accepted (subscribe x y)) (head-lay 0x06 h (lay-group g ++ rest) small) (group-lay 0x06 h g rest fits)
+type-lay (subscribe-ack h g) rest small fits = ap₂ (λ x y. accepted (subscribe-ack x y)) (head-lay 0x07 h (lay-group g ++ rest) small) (group-lay 0x07 h g rest fits)
 
-read-lay : (e : Entry) (rest : List ℕ) → head-of e .count2 < 16 → TailFits e → read-entry (layEntry e ++ rest) ≡ accepted e
+read-lay : (e : Entry) (rest : List ℕ) → head-of e .count2 < 16 → TailFits e → read-entry (lay-entry e ++ rest) ≡ accepted e
 unfolding read-entry
 read-lay e rest small fits =
-    let long : 16 ≤ length (layEntry e ++ rest) = omega (arith, length-append (layEntry e) rest, length-entry e) in
-    let front : getD (layEntry e ++ rest) 0 0 ≡ getD (layEntry e) 0 0 = List·getD-append (layEntry e) rest 0 0 (omega (arith, length-entry e)) in
-    when-pass _ _ _ (le-ltb (length (layEntry e ++ rest)) 16 long) ∙ rw front (type-lay e rest small fits)
+    let long : 16 ≤ length (lay-entry e ++ rest) = omega (arith, length-append (lay-entry e) rest, length-entry e) in
+    let front : getD (lay-entry e ++ rest) 0 0 ≡ getD (lay-entry e) 0 0 = List·getD-append (lay-entry e) rest 0 0 (omega (arith, length-entry e)) in
+    when-pass _ _ _ (le-ltb (length (lay-entry e ++ rest)) 16 long) ∙ rw front (type-lay e rest small fits)
 
-pub entry-lay : (n : ℕ) (e : Entry) (rest : List ℕ) → EntryFits n e → placed-entry n (layEntry e ++ rest) ≡ accepted e
+pub entry-lay : (n : ℕ) (e : Entry) (rest : List ℕ) → EntryFits n e → placed-entry n (lay-entry e ++ rest) ≡ accepted e
 unfolding placed-entry
 entry-lay n e rest fits =
     bind-pass _ _ e (read-lay e rest (fits .0 .four-bits) (fits .1)) ∙
@@ -136,8 +136,8 @@ entry-lay n e rest fits =
 nibbles : (x : ℕ) → x / 16 * 16 + x % 16 ≡ x
 nibbles x = omega arith
 
-head-read : (s : List ℕ) → Bytes s → layHead (head s) ≡ tab 11 (λ i. getD s (1 + i) 0)
-unfolding head layHead
+head-read : (s : List ℕ) → Bytes s → lay-head (head s) ≡ tab 11 (λ i. getD s (1 + i) 0)
+unfolding head lay-head
 head-read s b = rw (nibbles (getD s 3 0), be16-at s 4 b, be16-at s 6 b, be24-at s 9 b, be16-at s 10 b)
 
 four-bits-read : (s : List ℕ) → head s .count2 < 16
@@ -151,8 +151,8 @@ bit-read : (x : ℕ) (b : Bool) → x < 256 → eqb (x / 0x80 % 2) 1 ≡ b → b
 bit-read x true small e = let h = eqb-true (x / 0x80 % 2) 1 e in omega arith
 bit-read x false small e = let h = eqb-false (x / 0x80 % 2) 1 e in omega arith
 
-group-read : (s : List ℕ) → Bytes s → layGroup (group s) ≡ tab 4 (λ i. getD s (12 + i) 0)
-unfolding group layGroup
+group-read : (s : List ℕ) → Bytes s → lay-group (group s) ≡ tab 4 (λ i. getD s (12 + i) 0)
+unfolding group lay-group
 group-read s b = rw (bit-read (getD s 13 0) (has (getD s 13 0) 0x80) (b 13) refl, be16-at s 14 b)
 
 group-small : (s : List ℕ) → GroupFits (group s)
@@ -161,7 +161,7 @@ group-small s = (omega arith, omega arith)
 
 -- what an entry of type `type` has to do with the bytes that it was read from
 record Taken (type : ℕ) (s : List ℕ) (e : Entry) : Type 0 where
-  laid : layEntry e ≡ type ∷ tab 15 (λ i. getD s (1 + i) 0)
+  laid : lay-entry e ≡ type ∷ tab 15 (λ i. getD s (1 + i) 0)
   headed : head-of e ≡ head s
   tail : TailFits e
 
@@ -172,7 +172,7 @@ either-way false x y a e = inr e
 
 module _ (type : ℕ) (s : List ℕ) (e : Entry) (b : Bytes s) where
   -- `x`, of type `code`, with its last four bytes `t`
-  hit : (code : ℕ) (x : Entry) (t : List ℕ) → t ≡ tab 4 (λ i. getD s (12 + i) 0) → layEntry x ≡ code ∷ (layHead (head s) ++ t) → head-of x ≡ head s → TailFits x
+  hit : (code : ℕ) (x : Entry) (t : List ℕ) → t ≡ tab 4 (λ i. getD s (12 + i) 0) → lay-entry x ≡ code ∷ (lay-head (head s) ++ t) → head-of x ≡ head s → TailFits x
       → (eqb type code ≡ true) × (accepted x ≡ accepted e) → Taken type s e
   hit code x t last laid headed tail w =
       let same : type ≡ code = eqb-true type code (w .0) in
@@ -180,7 +180,7 @@ module _ (type : ℕ) (s : List ℕ) (e : Entry) (b : Bytes s) where
       rw (same, ← this) (record { laid = laid ∙ ap₂ (λ y z. code ∷ (y ++ z)) (head-read s b) last; headed = headed; tail = tail })
 
   type-read : by-type type s ≡ accepted e → Taken type s e
-  unfolding by-type layEntry
+  unfolding by-type lay-entry
   type-read p =
       ⊎-elim (hit 0x00 (find (head s) (minor s)) _ (minor-read s b) refl refl tt)
       (λ p1. ⊎-elim (hit 0x01 (offer (head s) (minor s)) _ (minor-read s b) refl refl tt)
@@ -212,7 +212,7 @@ module _ (n : ℕ) (s : List ℕ) (e : Entry) (p : placed-entry n s ≡ accepted
   pub entry-long : 16 ≤ length s
   entry-long = typed .0
 
-pub entry-read : (n : ℕ) (s : List ℕ) (e : Entry) → Bytes s → placed-entry n s ≡ accepted e → EntryFits n e × (layEntry e ++ drop 16 s ≡ s)
+pub entry-read : (n : ℕ) (s : List ℕ) (e : Entry) → Bytes s → placed-entry n s ≡ accepted e → EntryFits n e × (lay-entry e ++ drop 16 s ≡ s)
 entry-read n s e b p =
     let taken = type-read (getD s 0 0) s e b (typed n s e p .1) in
     let runs = runs-fit n (head-of e) .0 (opened n s e p .1) in (

@@ -21,10 +21,10 @@ use Rattle.sd_format.specs.Strings.{read-string}
 use Rattle.sd_format.specs.Kinds.{Row, row, Kind, configuration, load-balancing, address, unknown, Length, exactly, one-or-more, row-of, kind-of, judge-length, judge-text, judge-kind, scanned}
 use Rattle.sd_format.specs.Frames.{Frame, permitted}
 use Rattle.sd_format.specs.Fields.{first, string, priority, weight, width, address-bytes, reserved, protocol, port, items-of, fields-of, fields}
-use Rattle.sd_format.specs.Layout.{bit, layItems, GoodItem, layFirst, layType, layLength, addressLength, layOption, wire, Unknown, OptionFits}
+use Rattle.sd_format.specs.Layout.{bit, lay-items, GoodItem, lay-first, lay-type, lay-length, address-length, lay-option, wire, Unknown, OptionFits}
 use Rattle.sd_format.proofs.BitLaws.{first-again, first-back}
 use Rattle.sd_format.proofs.StringLaws.{strings-exact}
-use Rattle.sd_format.proofs.FrameLaws.{layFrame, Sound}
+use Rattle.sd_format.proofs.FrameLaws.{lay-frame, Sound}
 use Rattle.sd_format.proofs.KindLaws.{row-configuration, row-load-balancing, row-address, row-unknown, type-cases}
 
 -- ---- what the judgement of a row says
@@ -54,14 +54,14 @@ passing a items e = rw e
 -- what is shown of an option that fits: it is sound, its layout is its frame's, its fields are its own, and it is permitted
 pub record Wired (g : Settings) (o : Opt) : Type 0 where
   pub sound : Sound scanned (wire o)
-  pub layout : layFrame (wire o) ≡ layOption o
+  pub layout : lay-frame (wire o) ≡ lay-option o
   pub own : fields (wire o) ≡ o
   pub may : permitted g (kind-of (wire o .type)) (wire o .body) ≡ true
 
 -- by the row of its type
 wired-by : (g : Settings) (o : Opt) (r : Row) → row-of (wire o .type) ≡ r → 1 ≤ length (wire o .body)
     → (judge-length (r .len) (wire o .body) >> judge-text scanned (r .kind) (wire o .body)) ≡ pass
-    → layFrame (wire o) ≡ layOption o
+    → lay-frame (wire o) ≡ lay-option o
     → fields-of (r .kind) (wire o .type) (wire o .body) ≡ o
     → permitted g (r .kind) (wire o .body) ≡ true
     → Wired g o
@@ -89,35 +89,35 @@ or-true false b h = ⊎-elim (λ e. e) (λ e. let z : _≡_ {A = ℕ} 0 1 = cc i
 
 -- ---- the address and what stands behind it, once over both widths
 
-widths : (family : Family) → addressLength family ≡ width family
+widths : (family : Family) → address-length family ≡ width family
 widths ipv4 = refl
 widths ipv6 = refl
 
-lengths : (family : Family) → layLength family ≡ 5 + width family
+lengths : (family : Family) → lay-length family ≡ 5 + width family
 lengths ipv4 = refl
 lengths ipv6 = refl
 
-long-address : (family : Family) (x : ℕ) (a : List ℕ) (r p q : ℕ) → length a ≡ addressLength family
-    → length (x ∷ (a ++ (r ∷ p ∷ be16 q))) ≡ layLength family
+long-address : (family : Family) (x : ℕ) (a : List ℕ) (r p q : ℕ) → length a ≡ address-length family
+    → length (x ∷ (a ++ (r ∷ p ∷ be16 q))) ≡ lay-length family
 unfolding be16
 long-address family x a r p q len = rw (lengths family) (simp length-append (omega (arith, widths family)))
 
-own-address : (family : Family) (role : Role) (b : First) (a : List ℕ) (r p q : ℕ) → b .others < 128 → length a ≡ addressLength family
-    → fields-of (address family role) (layType family role) (layFirst b ∷ (a ++ (r ∷ p ∷ be16 q))) ≡ addressed family role b a r p q
+own-address : (family : Family) (role : Role) (b : First) (a : List ℕ) (r p q : ℕ) → b .others < 128 → length a ≡ address-length family
+    → fields-of (address family role) (lay-type family role) (lay-first b ∷ (a ++ (r ∷ p ∷ be16 q))) ≡ addressed family role b a r p q
 unfolding fields-of at16 be16
 own-address family role b a r p q few len =
     let w : length a ≡ width family = len ∙ widths family in
     let t : List ℕ = r ∷ p ∷ be16 q in
-    let hi : getD (layFirst b ∷ (a ++ t)) (3 + width family) 0 ≡ q / 256 = getD-behind (layFirst b) a t (3 + width family) 2 (omega arith) in
-    let lo : getD (layFirst b ∷ (a ++ t)) (3 + width family + 1) 0 ≡ q % 256 = getD-behind (layFirst b) a t (3 + width family + 1) 3 (omega arith) in
+    let hi : getD (lay-first b ∷ (a ++ t)) (3 + width family) 0 ≡ q / 256 = getD-behind (lay-first b) a t (3 + width family) 2 (omega arith) in
+    let lo : getD (lay-first b ∷ (a ++ t)) (3 + width family + 1) 0 ≡ q % 256 = getD-behind (lay-first b) a t (3 + width family + 1) 3 (omega arith) in
     let first-is = first-back b few in
     let address-is = take-at a t (width family) w in
-    let reserved-is = getD-behind (layFirst b) a t (1 + width family) 0 (omega arith) in
-    let protocol-is = getD-behind (layFirst b) a t (2 + width family) 1 (omega arith) in
-    let port-is : at16 (layFirst b ∷ (a ++ t)) (3 + width family) ≡ q = omega arith in
+    let reserved-is = getD-behind (lay-first b) a t (1 + width family) 0 (omega arith) in
+    let protocol-is = getD-behind (lay-first b) a t (2 + width family) 1 (omega arith) in
+    let port-is : at16 (lay-first b ∷ (a ++ t)) (3 + width family) ≡ q = omega arith in
     λ i. addressed family role (first-is i) (address-is i) (reserved-is i) (protocol-is i) (port-is i)
 
-own-balancing : (b : First) (p w : ℕ) → b .others < 128 → fields-of load-balancing 0x02 (layFirst b ∷ (be16 p ++ be16 w)) ≡ balancing b p w
+own-balancing : (b : First) (p w : ℕ) → b .others < 128 → fields-of load-balancing 0x02 (lay-first b ∷ (be16 p ++ be16 w)) ≡ balancing b p w
 unfolding fields-of at16 be16
 own-balancing b p w few =
     let first-is = first-back b few in
@@ -126,25 +126,25 @@ own-balancing b p w few =
     λ i. balancing (first-is i) (priority-is i) (weight-is i)
 
 pub wired : (g : Settings) (o : Opt) → OptionFits g o → Wired g o
-unfolding layOption layFrame be16 fields-of permitted judge-length judge-text items-of _>>_ refuse_when_else_
+unfolding lay-option lay-frame be16 fields-of permitted judge-length judge-text items-of _>>_ refuse_when_else_
 wired g (configuring b items) h =
-    let read : read-string (layItems items) ≡ accepted items = strings-exact (layItems items) .handed items .1 (h .1, refl) in
+    let read : read-string (lay-items items) ≡ accepted items = strings-exact (lay-items items) .handed items .1 (h .1, refl) in
     wired-by g (configuring b items) _ row-configuration (omega arith) (passing _ items read)
-    (same-length _ _ (1 ∷ layFirst b ∷ layItems items) (sym (one-add (length (layItems items)))))
+    (same-length _ _ (1 ∷ lay-first b ∷ lay-items items) (sym (one-add (length (lay-items items)))))
     (ap₂ {C = Opt} (λ c is. configuring c is) (first-back b (h .0)) (ap items-of read))
     refl
 wired g (balancing b p w) h =
     wired-by g (balancing b p w) _ row-load-balancing (omega arith) refl refl (own-balancing b p w h) refl
 wired g (addressed family role b a r p q) h =
-    let long = long-address family (layFirst b) a r p q (h .1) in
+    let long = long-address family (lay-first b) a r p q (h .1) in
     wired-by g (addressed family role b a r p q) _ (row-address family role) (omega arith)
-    (then-pass _ _ (exact-length (layLength family) (layFirst b ∷ (a ++ (r ∷ p ∷ be16 q))) .1 long))
-    (same-length _ _ (layType family role ∷ layFirst b ∷ (a ++ (r ∷ p ∷ be16 q))) long)
+    (then-pass _ _ (exact-length (lay-length family) (lay-first b ∷ (a ++ (r ∷ p ∷ be16 q))) .1 long))
+    (same-length _ _ (lay-type family role ∷ lay-first b ∷ (a ++ (r ∷ p ∷ be16 q))) long)
     (own-address family role b a r p q (h .0) (h .1))
     refl
 wired g (unrecognised type b rest) h =
     wired-by g (unrecognised type b rest) _ (row-unknown type (h .1)) (omega arith) refl
-    (same-length _ _ (type ∷ layFirst b ∷ rest) (sym (one-add (length rest))))
+    (same-length _ _ (type ∷ lay-first b ∷ rest) (sym (one-add (length rest))))
     (ap (λ (c : First). unrecognised type c rest) (first-back b (h .0)))
     (or-true _ _ (⊎-elim (λ d. inl (ap (λ (c : First). c .discardable) (first-back b (h .0)) ∙ d)) (λ d. inr d) (h .2)))
 
@@ -154,7 +154,7 @@ wired g (unrecognised type b rest) h =
 abbrev Back : Settings → ℕ → List ℕ → Opt → Type 0
 Back g type body o = OptionFits g o × (wire o ≡ record { type = type; body = body })
 
-whole-body : (body : List ℕ) → Bytes body → 1 ≤ length body → layFirst (first body) ∷ drop 1 body ≡ body
+whole-body : (body : List ℕ) → Bytes body → 1 ≤ length body → lay-first (first body) ∷ drop 1 body ≡ body
 whole-body [] b h = absurd (omega arith)
 whole-body (x ∷ rest) b h = ap (λ (y : ℕ). y ∷ rest) (first-again x (b 0))
 
@@ -178,40 +178,40 @@ address-again w body b h =
     let four : tab 4 (λ i. getD rest i 0) ≡ rest = sym (take-tab 4 rest (rw length-drop (omega arith))) ∙ take-all 4 rest (rw length-drop (omega arith)) in
     rw (be16-at body (3 + w) b, r, p, hi, lo, four, ← (drop-drop w 1 body)) (take-append-drop w (drop 1 body))
 
-five-again : (body : List ℕ) → Bytes body → length body ≡ 5 → layFirst (first body) ∷ (be16 (at16 body 1) ++ be16 (at16 body 3)) ≡ body
+five-again : (body : List ℕ) → Bytes body → length body ≡ 5 → lay-first (first body) ∷ (be16 (at16 body 1) ++ be16 (at16 body 3)) ≡ body
 five-again body b n =
     let five : tab 5 (λ i. getD body i 0) ≡ body = sym (take-tab 5 body (omega arith)) ∙ take-all 5 body (omega arith) in
     rw (first-again (getD body 0 0) (b 0), be16-at body 1 b, be16-at body 3 b) five
 
 module _ (g : Settings) (body : List ℕ) (b : Bytes body) (some : 1 ≤ length body) where
   back-configuration : scanned (string body) ≡ pass → Back g 0x01 body (fields-of configuration 0x01 body)
-  unfolding layOption be16 fields-of items-of
+  unfolding lay-option be16 fields-of items-of
   back-configuration j =
       let (items, e) = passes _ j in
       let is : items-of (read-string (string body)) ≡ items = ap items-of e in
       let (good, lay) = strings-exact (string body) .handed items .0 e in
-      let whole : layFirst (first body) ∷ layItems (items-of (read-string (string body))) ≡ body = rw (is, lay) (whole-body body b some) in
+      let whole : lay-first (first body) ∷ lay-items (items-of (read-string (string body))) ≡ body = rw (is, lay) (whole-body body b some) in
       ((few-bits body, rw is good), (λ i. record { type = 0x01; body = whole i }))
 
   back-balancing : length body ≡ 5 → Back g 0x02 body (fields-of load-balancing 0x02 body)
-  unfolding layOption be16 fields-of
+  unfolding lay-option be16 fields-of
   back-balancing n =
       let whole = five-again body b n in
       (few-bits body, (λ i. record { type = 0x02; body = whole i }))
 
-  back-address : (family : Family) (role : Role) → length body ≡ layLength family
-      → Back g (layType family role) body (fields-of (address family role) (layType family role) body)
-  unfolding layOption be16 fields-of
+  back-address : (family : Family) (role : Role) → length body ≡ lay-length family
+      → Back g (lay-type family role) body (fields-of (address family role) (lay-type family role) body)
+  unfolding lay-option be16 fields-of
   back-address family role n =
       let five : length body ≡ 5 + width family = n ∙ lengths family in
-      let wide : length (address-bytes family body) ≡ addressLength family =
+      let wide : length (address-bytes family body) ≡ address-length family =
       length-take-le (width family) (drop 1 body) (rw length-drop (omega arith)) ∙ sym (widths family) in
-      let whole : layFirst (first body) ∷ (address-bytes family body ++ (reserved family body ∷ protocol family body ∷ be16 (port family body))) ≡ body =
+      let whole : lay-first (first body) ∷ (address-bytes family body ++ (reserved family body ∷ protocol family body ∷ be16 (port family body))) ≡ body =
       rw (address-again (width family) body b five) (whole-body body b some) in
-      ((few-bits body, wide), (λ i. record { type = layType family role; body = whole i }))
+      ((few-bits body, wide), (λ i. record { type = lay-type family role; body = whole i }))
 
   back-unknown : (type : ℕ) → Unknown type → (g .discard || has (getD body 0 0) 0x80) ≡ true → Back g type body (fields-of unknown type body)
-  unfolding layOption be16 fields-of
+  unfolding lay-option be16 fields-of
   back-unknown type u may =
       let whole = whole-body body b some in
       ((few-bits body, u, or-cases _ _ may), (λ i. record { type = type; body = whole i }))
@@ -229,7 +229,7 @@ module _ (g : Settings) (body : List ℕ) (b : Bytes body) (some : 1 ≤ length 
       (λ e. subst (λ (t : ℕ). Said t (row-of t)) (sym e)
       (subst (Said 0x02) (sym row-load-balancing) (λ j m. back-balancing (exact-length 5 body .0 (then-accepted _ _ _ j .0)))))
       (λ family role e. subst (λ (t : ℕ). Said t (row-of t)) (sym e)
-      (subst (Said (layType family role)) (sym (row-address family role)) (λ j m. back-address family role (exact-length _ body .0 (then-accepted _ _ _ j .0)))))
+      (subst (Said (lay-type family role)) (sym (row-address family role)) (λ j m. back-address family role (exact-length _ body .0 (then-accepted _ _ _ j .0)))))
       (λ u. subst (Said type) (sym (row-unknown type u)) (λ j m. back-unknown type u m))
 
 pub shown : (g : Settings) (f : Frame) → Bytes (f .body) → Sound scanned f → permitted g (kind-of (f .type)) (f .body) ≡ true

@@ -13,11 +13,11 @@ use Rattle.sd_format.specs.Kinds.{judge-kind}
 use Rattle.sd_format.specs.Frames.{Frame, size, frame, one-option}
 
 -- the layout of an option whose kind is not looked at
-unfoldable pub layFrame : Frame → List ℕ
-layFrame f = be16 (length (f .body)) ++ (f .type ∷ f .body)
+unfoldable pub lay-frame : Frame → List ℕ
+lay-frame f = be16 (length (f .body)) ++ (f .type ∷ f .body)
 
-pub length-frame : (f : Frame) → length (layFrame f) ≡ size f
-unfolding layFrame be16
+pub length-frame : (f : Frame) → length (lay-frame f) ≡ size f
+unfolding lay-frame be16
 length-frame f = omega arith
 
 back16 : (n : ℕ) → n / 256 * 256 + n % 256 ≡ n
@@ -36,8 +36,8 @@ frame-step a b k n rest e pos h =
     )
 
 -- an option with a body is read from its layout, whatever follows
-frame-lay : (f : Frame) (rest : List ℕ) → 1 ≤ length (f .body) → frame (layFrame f ++ rest) ≡ accepted f
-unfolding layFrame be16
+frame-lay : (f : Frame) (rest : List ℕ) → 1 ≤ length (f .body) → frame (lay-frame f ++ rest) ≡ accepted f
+unfolding lay-frame be16
 frame-lay f rest h =
     frame-step _ _ (f .type) (length (f .body)) (f .body ++ rest) (back16 _) h (simp length-append (omega arith))
     ∙ rw take-append-seam
@@ -61,10 +61,10 @@ pub record Framed (s : List ℕ) (f : Frame) : Type 0 where
   pub within : size f ≤ length s
   pub type-at : getD s 2 0 ≡ f .type
   pub body-at : take (length (f .body)) (drop 3 s) ≡ f .body
-  pub again : Bytes s → layFrame f ++ drop (size f) s ≡ s
+  pub again : Bytes s → lay-frame f ++ drop (size f) s ≡ s
 
 framed : (s : List ℕ) (n : ℕ) → at16 s 0 ≡ n → 1 ≤ n → 3 + n ≤ length s → Framed s (record { type = getD s 2 0; body = take n (drop 3 s) })
-unfolding layFrame be16
+unfolding lay-frame be16
 framed s n e pos long =
     let full : length (take n (drop 3 s)) ≡ n = length-take-le n (drop 3 s) (rw length-drop (omega arith)) in
     record {
@@ -93,7 +93,7 @@ module _ (text : List ℕ → Verdict) where
     pub some-body : 1 ≤ length (f .body)
     pub judged : judge-kind text (f .type) (f .body) ≡ pass
 
-  pub option-lay : (f : Frame) (rest : List ℕ) → Sound f → one-option text (layFrame f ++ rest) ≡ accepted f
+  pub option-lay : (f : Frame) (rest : List ℕ) → Sound f → one-option text (lay-frame f ++ rest) ≡ accepted f
   unfolding one-option
   option-lay f rest w = bind-pass _ _ f (frame-lay f rest (w .some-body)) ∙ then-pass _ _ (w .judged)
 

@@ -7,7 +7,7 @@ use lib.Dec.{eqb}
 use borrow.Author.Tests.{ne-eqb, eqb-true, eqb-false}
 use Rattle.sd_format.specs.Options.{Family, ipv4, ipv6, Role, endpoint, multicast, sd-endpoint}
 use Rattle.sd_format.specs.Kinds.{Row, row, configuration, load-balancing, address, unknown, exactly, one-or-more, kinds, row-in, row-of}
-use Rattle.sd_format.specs.Layout.{layType, layLength, Unknown}
+use Rattle.sd_format.specs.Layout.{lay-type, lay-length, Unknown}
 
 -- ---- the rows, by what the layout writes
 
@@ -19,7 +19,7 @@ pub row-load-balancing : row-of 0x02 ≡ row 0x02 load-balancing (exactly 5)
 unfolding row-of row-in kinds
 row-load-balancing = refl
 
-pub row-address : (family : Family) (role : Role) → row-of (layType family role) ≡ row (layType family role) (address family role) (exactly (layLength family))
+pub row-address : (family : Family) (role : Role) → row-of (lay-type family role) ≡ row (lay-type family role) (address family role) (exactly (lay-length family))
 unfolding row-of row-in kinds
 row-address ipv4 endpoint = refl
 row-address ipv4 multicast = refl
@@ -52,7 +52,7 @@ is {X = X} a b same other = go (eqb a b) refl
     go false e = other (eqb-false a b e)
 
 pub type-cases {ℓ} : {X : Type ℓ} (type : ℕ) → (type ≡ 0x01 → X) → (type ≡ 0x02 → X)
-    → ((family : Family) (role : Role) → type ≡ layType family role → X) → (Unknown type → X) → X
+    → ((family : Family) (role : Role) → type ≡ lay-type family role → X) → (Unknown type → X) → X
 type-cases type conf load addr other =
     is type 0x01 conf (λ n1.
     is type 0x02 load (λ n2.
@@ -65,7 +65,7 @@ type-cases type conf load addr other =
     other (record { not-configuration = n1; not-load-balancing = n2; not-address = not-any n4 n14 n24 n6 n16 n26 })))))))))
   where
     not-any : (type ≡ 0x04 → ⊥) → (type ≡ 0x14 → ⊥) → (type ≡ 0x24 → ⊥) → (type ≡ 0x06 → ⊥) → (type ≡ 0x16 → ⊥) → (type ≡ 0x26 → ⊥)
-        → (family : Family) (role : Role) → type ≡ layType family role → ⊥
+        → (family : Family) (role : Role) → type ≡ lay-type family role → ⊥
     not-any n4 n14 n24 n6 n16 n26 ipv4 endpoint = n4
     not-any n4 n14 n24 n6 n16 n26 ipv4 multicast = n14
     not-any n4 n14 n24 n6 n16 n26 ipv4 sd-endpoint = n24

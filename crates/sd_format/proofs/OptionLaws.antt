@@ -19,38 +19,38 @@ use Rattle.sd_format.specs.Options.{Opt}
 use Rattle.sd_format.specs.Kinds.{Kind, configuration, load-balancing, address, unknown, kind-of, judge-length, judge-text, judge-kind, row-of, scanned, unscanned}
 use Rattle.sd_format.specs.Frames.{Frame, size, one-option, read-option, permitted, permit, all-options, read-options, slots, zeros, filled, table-after, misfit, look-up, Run, next-of-run, along}
 use Rattle.sd_format.specs.Fields.{fields}
-use Rattle.sd_format.specs.Layout.{layAll, layOption, layOptions, wire, OptionFits}
-use Rattle.sd_format.proofs.SequenceLaws.{all-exact, lay-all, all-count, counted-past, counted-in, counted-drop, length-starts, read-start}
-use Rattle.sd_format.proofs.FrameLaws.{layFrame, length-frame, Sound, option-lay, option-says, option-within}
+use Rattle.sd_format.specs.Layout.{lay-all, lay-option, lay-options, wire, OptionFits}
+use Rattle.sd_format.proofs.SequenceLaws.{all-exact, all-laid-read, all-count, counted-past, counted-in, counted-drop, length-starts, read-start}
+use Rattle.sd_format.proofs.FrameLaws.{lay-frame, length-frame, Sound, option-lay, option-says, option-within}
 use Rattle.sd_format.proofs.FieldLaws.{Wired, wired, shown}
 
 -- ---- all options, as type and bytes
 
-pub all-frames : (s : List ℕ) → Bytes s → (fs : List Frame) → (all-options s ≡ accepted fs) ↔ (All (Sound scanned) fs × (layAll layFrame fs ≡ s))
+pub all-frames : (s : List ℕ) → Bytes s → (fs : List Frame) → (all-options s ≡ accepted fs) ↔ (All (Sound scanned) fs × (lay-all lay-frame fs ≡ s))
 unfolding all-options
 all-frames s b fs =
-    all-exact read-option size layFrame (Sound scanned)
+    all-exact read-option size lay-frame (Sound scanned)
     (option-lay scanned)
     (λ t f bytes e. let w = option-says scanned t f e in (w .0, w .1 .again bytes))
     (λ f w. length-frame f)
     (λ f w. omega arith)
     s b fs
 
-frames-lay : (fs : List Frame) → All (Sound scanned) fs → all-options (layAll layFrame fs) ≡ accepted fs
+frames-lay : (fs : List Frame) → All (Sound scanned) fs → all-options (lay-all lay-frame fs) ≡ accepted fs
 unfolding all-options
 frames-lay fs w =
-    lay-all read-option size layFrame (Sound scanned) (option-lay scanned)
+    all-laid-read read-option size lay-frame (Sound scanned) (option-lay scanned)
     (λ t f bytes e. let v = option-says scanned t f e in (v .0, v .1 .again bytes))
     (λ f v. length-frame f)
     (λ f v. omega arith)
     fs w
 
 -- the bodies of bytes are bytes
-bodies : (fs : List Frame) → Bytes (layAll layFrame fs) → All (λ f. Bytes (f .body)) fs
-unfolding layAll layFrame be16
+bodies : (fs : List Frame) → Bytes (lay-all lay-frame fs) → All (λ f. Bytes (f .body)) fs
+unfolding lay-all lay-frame be16
 bodies [] b = tt
 bodies (f ∷ fs) b =
-    ((λ i. bytes-left (layFrame f) (layAll layFrame fs) b (suc (suc (suc i)))), bodies fs (bytes-right (layFrame f) (layAll layFrame fs) b))
+    ((λ i. bytes-left (lay-frame f) (lay-all lay-frame fs) b (suc (suc (suc i)))), bodies fs (bytes-right (lay-frame f) (lay-all lay-frame fs) b))
 
 -- an option has four bytes or more
 pub few-options : (s : List ℕ) (fs : List Frame) → all-options s ≡ accepted fs → 4 * length fs ≤ length s
@@ -80,8 +80,8 @@ read-parts g s fs = (
 module _ (g : Settings) where
   -- lists of options that fit, and of frames that are sound and permitted, give each other back
   wired-all : (os : List Opt) → All (OptionFits g) os
-      → All (Sound scanned) (map wire os) × All (Permitted g) (map wire os) × (layAll layFrame (map wire os) ≡ layOptions os) × (map fields (map wire os) ≡ os)
-  unfolding layAll
+      → All (Sound scanned) (map wire os) × All (Permitted g) (map wire os) × (lay-all lay-frame (map wire os) ≡ lay-options os) × (map fields (map wire os) ≡ os)
+  unfolding lay-all
   wired-all [] h = (tt, tt, refl, refl)
   wired-all (o ∷ os) h =
       let w = wired g o (h .0) in
@@ -97,20 +97,20 @@ module _ (g : Settings) where
       ((fits, all-fit), rw (back, all-back))
 
   -- what is laid out is read, as the frames of those options
-  pub options-lay : (os : List Opt) → All (OptionFits g) os → read-options g (layOptions os) ≡ accepted (map wire os)
+  pub options-lay : (os : List Opt) → All (OptionFits g) os → read-options g (lay-options os) ≡ accepted (map wire os)
   options-lay os h =
       let (sound, may, lay, own) = wired-all os h in
       rw (← lay) (read-parts g _ (map wire os) .1 (frames-lay (map wire os) sound, may))
 
   -- what is read is laid out by its fields
   pub options-read : (s : List ℕ) → Bytes s → (fs : List Frame) → read-options g s ≡ accepted fs
-      → All (OptionFits g) (map fields fs) × (layOptions (map fields fs) ≡ s) × (map wire (map fields fs) ≡ fs)
+      → All (OptionFits g) (map fields fs) × (lay-options (map fields fs) ≡ s) × (map wire (map fields fs) ≡ fs)
   options-read s b fs e =
       let (all-read, may) = read-parts g s fs .0 e in
       let (sound, lay) = all-frames s b fs .0 all-read in
       let (fits, back) = shown-all fs (bodies fs (rw lay b)) sound may in
       let (_, _, same, _) = wired-all (map fields fs) fits in
-      (fits, sym same ∙ ap (layAll layFrame) back ∙ lay, back)
+      (fits, sym same ∙ ap (lay-all lay-frame) back ∙ lay, back)
 
   -- the fields of what was laid out are its own
   pub options-own : (os : List Opt) → All (OptionFits g) os → map fields (map wire os) ≡ os

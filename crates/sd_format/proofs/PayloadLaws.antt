@@ -17,10 +17,10 @@ use Rattle.sd_format.specs.Options.{Opt, has}
 use Rattle.sd_format.specs.Frames.{Frame, read-options}
 use Rattle.sd_format.specs.Fields.{fields}
 use Rattle.sd_format.specs.Entries.{Entry, sixteen, read-entries, placed-entry}
-use Rattle.sd_format.specs.Layout.{bit, layAll, layEntry, layEntries, layOptions, wire, Flags, Payload, layOpening, sized, layParts, lay, Fits, EntryFits, OptionFits}
+use Rattle.sd_format.specs.Layout.{bit, lay-all, lay-entry, lay-entries, lay-options, wire, Flags, Payload, lay-opening, sized, lay-parts, lay, Fits, EntryFits, OptionFits}
 use Rattle.sd_format.specs.Payload.{sizes, entries-length, options-length, entries-part, options-part, Reading, read-payload, flags, shown, handed-out}
 use Rattle.sd_format.proofs.BitLaws.{num, num-small, bit-num, num-has, has-num}
-use Rattle.sd_format.proofs.SequenceLaws.{all-exact, lay-all}
+use Rattle.sd_format.proofs.SequenceLaws.{all-exact, all-laid-read}
 use Rattle.sd_format.proofs.OptionLaws.{options-lay, options-read, options-own}
 use Rattle.sd_format.proofs.EntryLaws.{length-entry, entry-lay, entry-read}
 
@@ -47,8 +47,8 @@ module _ (f : Flags) (spare reserved : ℕ) (five : spare < 32) where
   spare-back : byte0 % 32 ≡ spare
   spare-back = omega (arith, bits0, num-small (f .reboot), num-small (f .unicast), num-small (f .initial-data-control))
 
-  pub opening-back : (flags (getD (layOpening f spare reserved) 0 0) ≡ f) × (getD (layOpening f spare reserved) 0 0 % 32 ≡ spare) × (at24 (layOpening f spare reserved) 1 ≡ reserved)
-  unfolding layOpening at24 at16 be24 be16
+  pub opening-back : (flags (getD (lay-opening f spare reserved) 0 0) ≡ f) × (getD (lay-opening f spare reserved) 0 0 % 32 ≡ spare) × (at24 (lay-opening f spare reserved) 1 ≡ reserved)
+  unfolding lay-opening at24 at16 be24 be16
   opening-back = (flags-back, spare-back, omega arith)
 
 -- the flags of a byte, laid out again
@@ -59,14 +59,14 @@ byte-again x h =
     let bit7 : x / 0x80 % 2 ≡ x / 0x80 = omega arith in
     rw (bit-num 0x80 (has x 0x80), bit-num 0x40 (has x 0x40), bit-num 0x20 (has x 0x20), num-has (x / 0x80), num-has (x / 0x40), num-has (x / 0x20)) (omega arith)
 
-pub opening-again : (o : List ℕ) → Bytes o → length o ≡ 4 → layOpening (flags (getD o 0 0)) (getD o 0 0 % 32) (at24 o 1) ≡ o
-unfolding layOpening
+pub opening-again : (o : List ℕ) → Bytes o → length o ≡ 4 → lay-opening (flags (getD o 0 0)) (getD o 0 0 % 32) (at24 o 1) ≡ o
+unfolding lay-opening
 opening-again o b n =
     let four : tab 4 (λ i. getD o i 0) ≡ o = sym (take-tab 4 o (omega arith)) ∙ take-all 4 o (omega arith) in
     rw (byte-again (getD o 0 0) (b 0), be24-at o 1 b, be16-at o 2 b) four
 
-length-opening : (f : Flags) (spare reserved : ℕ) → length (layOpening f spare reserved) ≡ 4
-unfolding layOpening be24 be16
+length-opening : (f : Flags) (spare reserved : ℕ) → length (lay-opening f spare reserved) ≡ 4
+unfolding lay-opening be24 be16
 length-opening f spare reserved = refl
 
 -- ---- the sizes
@@ -206,18 +206,18 @@ bytes-options s b = bytes-drop s (12 + entries-length s) b
 
 -- ---- all entries
 
-entries-exact : (n : ℕ) (s : List ℕ) → Bytes s → (es : List Entry) → (read-entries n s ≡ accepted es) ↔ (All (EntryFits n) es × (layEntries es ≡ s))
+entries-exact : (n : ℕ) (s : List ℕ) → Bytes s → (es : List Entry) → (read-entries n s ≡ accepted es) ↔ (All (EntryFits n) es × (lay-entries es ≡ s))
 unfolding read-entries
 entries-exact n s b es =
-    all-exact (placed-entry n) sixteen layEntry (EntryFits n) (λ e rest w. entry-lay n e rest w) (entry-read n) (λ e w. length-entry e) (λ e w. omega arith) s b es
+    all-exact (placed-entry n) sixteen lay-entry (EntryFits n) (λ e rest w. entry-lay n e rest w) (entry-read n) (λ e w. length-entry e) (λ e w. omega arith) s b es
 
-entries-lay : (n : ℕ) (es : List Entry) → All (EntryFits n) es → read-entries n (layEntries es) ≡ accepted es
+entries-lay : (n : ℕ) (es : List Entry) → All (EntryFits n) es → read-entries n (lay-entries es) ≡ accepted es
 unfolding read-entries
 entries-lay n es w =
-    lay-all (placed-entry n) sixteen layEntry (EntryFits n) (λ e rest v. entry-lay n e rest v) (entry-read n) (λ e v. length-entry e) (λ e v. omega arith) es w
+    all-laid-read (placed-entry n) sixteen lay-entry (EntryFits n) (λ e rest v. entry-lay n e rest v) (entry-read n) (λ e v. length-entry e) (λ e v. omega arith) es w
 
-length-entries : (es : List Entry) → length (layEntries es) ≡ 16 * length es
-unfolding layAll
+length-entries : (es : List Entry) → length (lay-entries es) ≡ 16 * length es
+unfolding lay-all
 length-entries [] = refl
 length-entries (e ∷ es) = rw (length-append, length-entry, length-entries es) (omega arith)
 
@@ -226,12 +226,12 @@ length-entries (e ∷ es) = rw (length-append, length-entry, length-entries es) 
 module _ (g : Settings) where
   -- what is laid out is read
   lay-read : (p : Payload) → Fits g p
-      → read-payload g (lay p) ≡ accepted (record { opening = layOpening (p .flags) (p .spare) (p .reserved); entries = p .entries; frames = map wire (p .options) })
-  unfolding read-payload layParts
+      → read-payload g (lay p) ≡ accepted (record { opening = lay-opening (p .flags) (p .spare) (p .reserved); entries = p .entries; frames = map wire (p .options) })
+  unfolding read-payload lay-parts
   lay-read p h =
-      let F : List ℕ = layOpening (p .flags) (p .spare) (p .reserved) in
-      let E : List ℕ = layEntries (p .entries) in
-      let O : List ℕ = layOptions (p .options) in
+      let F : List ℕ = lay-opening (p .flags) (p .spare) (p .reserved) in
+      let E : List ℕ = lay-entries (p .entries) in
+      let O : List ℕ = lay-options (p .options) in
       let four = length-opening (p .flags) (p .spare) (p .reserved) in
       let len = part-length F E O four in
       let count : length (map wire (p .options)) ≡ length (p .options) = length-map (p .options) wire in
@@ -272,7 +272,7 @@ module _ (g : Settings) where
 
   -- what is read is laid out
   pub read-lay : (s : List ℕ) (r : Reading) → Bytes s → read-payload g s ≡ accepted r → Fits g (shown r) × (lay (shown r) ≡ s)
-  unfolding shown layParts
+  unfolding shown lay-parts
   read-lay s r b e =
       let says = read-says s r e in
       let sz = says .sizes-fit in

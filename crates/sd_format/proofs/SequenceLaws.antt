@@ -15,7 +15,7 @@ use Rattle.numbers.specs.Answers.{Answer, accepted, refused, _>>=_, refuse_when
 use Rattle.numbers.specs.Bytes.{Bytes}
 use Rattle.numbers.proofs.AnswerLaws.{when-hit, when-pass, not-refused, accepted-inj, bind-accepted, bind-pass}
 use Rattle.sd_format.specs.Sequences.{all-from, all, next-at, behind, starts, counted, HandsOut, ended, gave}
-use Rattle.sd_format.specs.Layout.{layAll}
+use Rattle.sd_format.specs.Layout.{lay-all}
 
 drop-past : (n b : ℕ) (s : List ℕ) → 1 ≤ n → drop n (b ∷ s) ≡ drop (n - 1) s
 drop-past zero b s h = absurd (omega arith)
@@ -94,22 +94,22 @@ module _ {A : Type 0} (read : List ℕ → Answer A) (size : A → ℕ) (lay : A
     (sized : (a : A) → Fits a → length (lay a) ≡ size a)
     (some : (a : A) → Fits a → 1 ≤ size a) where
   abbrev Laid : List A → List ℕ → Type 0
-  Laid xs s = All Fits xs × (layAll lay xs ≡ s)
+  Laid xs s = All Fits xs × (lay-all lay xs ≡ s)
 
-  pub lay-all : (xs : List A) → All Fits xs → all read size (layAll lay xs) ≡ accepted xs
-  unfolding layAll
-  lay-all [] w = all-end read size [] refl
-  lay-all (a ∷ xs) w =
-      let long : 1 ≤ length (lay a ++ layAll lay xs) = simp length-append (omega (arith, sized a (w .0), some a (w .0))) in
-      all-more read size _ a long (some a (w .0)) (laid a (layAll lay xs) (w .0))
-      ∙ bind-pass _ _ xs (rw (drop-at (lay a) (layAll lay xs) (size a) (sized a (w .0))) (lay-all xs (w .1)))
+  pub all-laid-read : (xs : List A) → All Fits xs → all read size (lay-all lay xs) ≡ accepted xs
+  unfolding lay-all
+  all-laid-read [] w = all-end read size [] refl
+  all-laid-read (a ∷ xs) w =
+      let long : 1 ≤ length (lay a ++ lay-all lay xs) = simp length-append (omega (arith, sized a (w .0), some a (w .0))) in
+      all-more read size _ a long (some a (w .0)) (laid a (lay-all lay xs) (w .0))
+      ∙ bind-pass _ _ xs (rw (drop-at (lay a) (lay-all lay xs) (size a) (sized a (w .0))) (all-laid-read xs (w .1)))
 
   none-laid : (xs : List A) → accepted [] ≡ accepted xs → Laid xs []
-  unfolding layAll
+  unfolding lay-all
   none-laid xs e = subst (λ (l : List A). Laid l []) (accepted-inj [] xs e) (tt, refl)
 
   more-laid : (s : List ℕ) (a : A) (xs : List A) → Fits a × (lay a ++ drop (size a) s ≡ s) → Laid xs (drop (size a) s) → Laid (a ∷ xs) s
-  unfolding layAll
+  unfolding lay-all
   more-laid s a xs w l = ((w .0, l .0), ap (λ (t : List ℕ). lay a ++ t) (l .1) ∙ w .1)
 
   all-lay : (s : List ℕ) (k : ℕ) (xs : List A) → Bytes s → all-from read size s k ≡ accepted xs → Laid xs (drop k s)
@@ -124,8 +124,8 @@ module _ {A : Type 0} (read : List ℕ → Answer A) (size : A → ℕ) (lay : A
       let l : Laid later (drop (size a) (x ∷ s)) = rw (drop-past (size a) x s (some a (w .0))) (all-lay s (size a - 1) later (λ i. b (suc i)) e3) in
       subst (λ (l : List A). Laid l (x ∷ s)) (accepted-inj (a ∷ later) xs e4) (more-laid (x ∷ s) a later w l)
 
-  pub all-exact : (s : List ℕ) → Bytes s → (xs : List A) → (all read size s ≡ accepted xs) ↔ (All Fits xs × (layAll lay xs ≡ s))
-  all-exact s b xs = (all-lay s 0 xs b, (λ h. rw (← (h .1)) (lay-all xs (h .0))))
+  pub all-exact : (s : List ℕ) → Bytes s → (xs : List A) → (all read size s ≡ accepted xs) ↔ (All Fits xs × (lay-all lay xs ≡ s))
+  all-exact s b xs = (all-lay s 0 xs b, (λ h. rw (← (h .1)) (all-laid-read xs (h .0))))
 
 -- ---- counting
 

@@ -16,7 +16,7 @@ use Rattle.numbers.specs.Refusals.{Refusal, missing-terminator, item-too-long, 
 use Rattle.numbers.specs.Answers.{Answer, accepted, refused, Verdict, pass, _>>=_, _>>_, refuse_when_else_, given, verdict, All}
 use Rattle.numbers.proofs.AnswerLaws.{when-hit, when-pass, when-accepted, not-refused, accepted-inj, then-accepted, then-pass, bind-accepted, bind-pass, test-accepted, all-both}
 use Rattle.sd_format.specs.Strings.{key-of, judge-bytes, all-spaces, judge-key, judge-item, closed, items-from, read-string}
-use Rattle.sd_format.specs.Layout.{GoodItem, layItems}
+use Rattle.sd_format.specs.Layout.{GoodItem, lay-items}
 use Rattle.sd_format.specs.Demand3.{StringsExact}
 
 -- ---- the items from a place on
@@ -250,17 +250,17 @@ item-passes at n rest = (
 
 -- `items` are good, and laid out they are `s`
 abbrev pub ItemsLaid : List (List ℕ) → List ℕ → Type 0
-ItemsLaid items s = All GoodItem items × (layItems items ≡ s)
+ItemsLaid items s = All GoodItem items × (lay-items items ≡ s)
 
 closed-laid : (at : ℕ) (rest : List ℕ) (items : List (List ℕ)) → closed at rest ≡ accepted items → ItemsLaid items (0 ∷ rest)
-unfolding closed layItems
+unfolding closed lay-items
 closed-laid at rest items e =
     let w = when-accepted (trailing-data at) (not (eqb (length rest) 0)) (accepted []) items e in
     let none : rest ≡ [] = no-length rest (eqb-true _ _ (not-false _ (w .0))) in
     rw (closed-nothing at rest items e, none) (tt, refl)
 
 item-laid : (n : ℕ) (rest : List ℕ) (later : List (List ℕ)) → n ≤ length rest → GoodItem (take n rest) → ItemsLaid later (drop n rest) → ItemsLaid (take n rest ∷ later) (n ∷ rest)
-unfolding layItems
+unfolding lay-items
 item-laid n rest later fits good laid = (
   (good, laid .0),
   ap₂ {C = List ℕ} (λ m r. m ∷ r) (length-take-le n rest fits) (ap (λ (r : List ℕ). take n rest ++ r) (laid .1) ∙ take-append-drop n rest),
@@ -286,18 +286,18 @@ good-some : (item : List ℕ) → GoodItem item → length item ≡ 0 → ⊥
 unfolding key-of
 good-some item g none = g .good-key .not-empty (sym (key-found item g) ∙ ap key-of (no-length item none))
 
-laid-read : (at : ℕ) (items : List (List ℕ)) → All GoodItem items → items-from at 0 (layItems items) ≡ accepted items
-unfolding layItems
+laid-read : (at : ℕ) (items : List (List ℕ)) → All GoodItem items → items-from at 0 (lay-items items) ≡ accepted items
+unfolding lay-items
 laid-read at [] good = at-terminator at [] ∙ closed-last at [] refl
 laid-read at (item ∷ items) good =
     let n : ℕ = length item in
-    let rest : List ℕ = item ++ layItems items in
+    let rest : List ℕ = item ++ lay-items items in
     let with-it : List (List ℕ) → Answer (List (List ℕ)) = λ later. accepted (take n rest ∷ later) in
-    let whole : take n rest ≡ item = take-append-seam item (layItems items) in
+    let whole : take n rest ≡ item = take-append-seam item (lay-items items) in
     at-item at n rest (good-some item (good .0))
     ∙ then-pass (judge-item at n rest) (items-from (at + 1) n rest >>= with-it) (item-passes at n rest .1 (simp length-append (omega arith), rw whole (good .0)))
     ∙ bind-pass (items-from (at + 1) n rest) with-it items
-    (passed (at + 1) n rest ∙ ap (items-from (at + 1 + n) 0) (drop-append-seam item (layItems items)) ∙ laid-read (at + 1 + n) items (good .1))
+    (passed (at + 1) n rest ∙ ap (items-from (at + 1 + n) 0) (drop-append-seam item (lay-items items)) ∙ laid-read (at + 1 + n) items (good .1))
     ∙ ap (λ (i : List ℕ). accepted (i ∷ items)) whole
 
 pub handed-laid : (s : List ℕ) (items : List (List ℕ)) → (read-string s ≡ accepted items) ↔ ItemsLaid items s

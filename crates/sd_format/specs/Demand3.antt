@@ -14,7 +14,7 @@ use Rattle.sd_format.specs.Strings.{read-string}
 use Rattle.sd_format.specs.Frames.{size, slots, lent, table-after, read-index, look-up, next-option, next-of-run, along}
 use Rattle.sd_format.specs.Fields.{fields}
 use Rattle.sd_format.specs.Entries.{Head, sixteen, next-entry}
-use Rattle.sd_format.specs.Layout.{GoodItem, layItems, OptionFits, layOptions, wire, RunFits, Payload, lay, Fits, Header, layHeader}
+use Rattle.sd_format.specs.Layout.{GoodItem, lay-items, OptionFits, lay-options, wire, RunFits, Payload, lay, Fits, Header, lay-header}
 use Rattle.sd_format.specs.Payload.{entries-part, options-part, read-payload, frames-of, shown, handed-out, read-message}
 
 -- `p` fits the conditions, and its layout is `s`
@@ -54,12 +54,12 @@ pub record LentExactly {A : Type 0} (tab : List ℕ) (a : Answer A) : Type 0 whe
 -- the index alone: at most 1,388 bytes that are options laid out, unknown ones whether they may be discarded or not
 pub record IndexExact (s : List ℕ) : Type 0 where
   pub handed : (os : List Opt) → (given (map fields) (read-index s) ≡ accepted os)
-      ↔ ((length s ≤ 1388) × All (OptionFits (record { discard = true })) os × (layOptions os ≡ s))
+      ↔ ((length s ≤ 1388) × All (OptionFits (record { discard = true })) os × (lay-options os ≡ s))
 
 -- the message: a header with a session that is not 0, and a payload laid out behind it
 pub record MessageExact (g : Settings) (s : List ℕ) : Type 0 where
   pub handed : (p : Payload) → (given shown (read-message g s) ≡ accepted p)
-      ↔ ((h : Header) × (h .session ≡ 0 → ⊥) × Fits g p × (layHeader h ++ lay p ≡ s))
+      ↔ ((h : Header) × (h .session ≡ 0 → ⊥) × Fits g p × (lay-header h ++ lay p ≡ s))
 
 -- what a refusal of an entry's runs says: which run leaves the list of `n` options, the first before the second
 pub data RunsRefused (n : ℕ) (h : Head) : Refusal → Type 0 where
@@ -69,5 +69,5 @@ pub data RunsRefused (n : ℕ) (h : Head) : Refusal → Type 0 where
 
 -- a configuration string is accepted exactly when some list of items with good keys, laid out and closed, gives those bytes
 pub record StringsExact (s : List ℕ) : Type 0 where
-  pub handed : (items : List (List ℕ)) → (read-string s ≡ accepted items) ↔ (All GoodItem items × (layItems items ≡ s))
-  pub only-one : (items others : List (List ℕ)) → All GoodItem items × (layItems items ≡ s) → All GoodItem others × (layItems others ≡ s) → items ≡ others
+  pub handed : (items : List (List ℕ)) → (read-string s ≡ accepted items) ↔ (All GoodItem items × (lay-items items ≡ s))
+  pub only-one : (items others : List (List ℕ)) → All GoodItem items × (lay-items items ≡ s) → All GoodItem others × (lay-items others ≡ s) → items ≡ others

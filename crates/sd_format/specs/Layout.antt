@@ -18,16 +18,16 @@ abbrev pub bit : ℕ → Bool → ℕ
 bit v b = cond b v 0
 
 -- the elements' layouts, one after the other
-unfoldable pub layAll : {A : Type 0} → (A → List ℕ) → List A → List ℕ
-layAll lay [] = []
-layAll lay (x ∷ xs) = lay x ++ layAll lay xs
+unfoldable pub lay-all : {A : Type 0} → (A → List ℕ) → List A → List ℕ
+lay-all lay [] = []
+lay-all lay (x ∷ xs) = lay x ++ lay-all lay xs
 
 -- ---- configuration strings
 
 -- of each item its length and its bytes, and a zero at the end
-unfoldable pub layItems : List (List ℕ) → List ℕ
-layItems [] = 0 ∷ []
-layItems (item ∷ items) = length item ∷ (item ++ layItems items)
+unfoldable pub lay-items : List (List ℕ) → List ℕ
+lay-items [] = 0 ∷ []
+lay-items (item ∷ items) = length item ∷ (item ++ lay-items items)
 
 -- key bytes lie in 0x20 to 0x7e, and `=` is none of them; the key is neither empty nor all spaces
 pub record GoodKey (key : List ℕ) : Type 0 where
@@ -44,41 +44,41 @@ pub record GoodItem (item : List ℕ) : Type 0 where
 -- ---- options
 
 -- the byte after the type
-abbrev pub layFirst : First → ℕ
-layFirst b = bit 0x80 (b .discardable) + b .others
+abbrev pub lay-first : First → ℕ
+lay-first b = bit 0x80 (b .discardable) + b .others
 
-abbrev pub layType : Family → Role → ℕ
-layType ipv4 endpoint = 0x04
-layType ipv4 multicast = 0x14
-layType ipv4 sd-endpoint = 0x24
-layType ipv6 endpoint = 0x06
-layType ipv6 multicast = 0x16
-layType ipv6 sd-endpoint = 0x26
+abbrev pub lay-type : Family → Role → ℕ
+lay-type ipv4 endpoint = 0x04
+lay-type ipv4 multicast = 0x14
+lay-type ipv4 sd-endpoint = 0x24
+lay-type ipv6 endpoint = 0x06
+lay-type ipv6 multicast = 0x16
+lay-type ipv6 sd-endpoint = 0x26
 
-abbrev pub layLength : Family → ℕ
-layLength ipv4 = 9
-layLength ipv6 = 21
+abbrev pub lay-length : Family → ℕ
+lay-length ipv4 = 9
+lay-length ipv6 = 21
 
-abbrev pub addressLength : Family → ℕ
-addressLength ipv4 = 4
-addressLength ipv6 = 16
+abbrev pub address-length : Family → ℕ
+address-length ipv4 = 4
+address-length ipv6 = 16
 
-unfoldable pub layOption : Opt → List ℕ
-layOption (configuring b items) = be16 (1 + length (layItems items)) ++ (0x01 ∷ layFirst b ∷ layItems items)
-layOption (balancing b priority weight) = be16 5 ++ (0x02 ∷ layFirst b ∷ (be16 priority ++ be16 weight))
-layOption (addressed family role b address reserved protocol port) =
-    be16 (layLength family) ++ (layType family role ∷ layFirst b ∷ (address ++ (reserved ∷ protocol ∷ be16 port)))
-layOption (unrecognised type b rest) = be16 (1 + length rest) ++ (type ∷ layFirst b ∷ rest)
+unfoldable pub lay-option : Opt → List ℕ
+lay-option (configuring b items) = be16 (1 + length (lay-items items)) ++ (0x01 ∷ lay-first b ∷ lay-items items)
+lay-option (balancing b priority weight) = be16 5 ++ (0x02 ∷ lay-first b ∷ (be16 priority ++ be16 weight))
+lay-option (addressed family role b address reserved protocol port) =
+    be16 (lay-length family) ++ (lay-type family role ∷ lay-first b ∷ (address ++ (reserved ∷ protocol ∷ be16 port)))
+lay-option (unrecognised type b rest) = be16 (1 + length rest) ++ (type ∷ lay-first b ∷ rest)
 
 -- an option as lookup hands it out: its type, and the bytes after it
 abbrev pub wire : Opt → Frame
-wire o = record { type = getD (layOption o) 2 0; body = drop 3 (layOption o) }
+wire o = record { type = getD (lay-option o) 2 0; body = drop 3 (lay-option o) }
 
 -- the eight known types
 pub record Unknown (type : ℕ) : Type 0 where
   pub not-configuration : type ≡ 0x01 → ⊥
   pub not-load-balancing : type ≡ 0x02 → ⊥
-  pub not-address : (family : Family) (role : Role) → type ≡ layType family role → ⊥
+  pub not-address : (family : Family) (role : Role) → type ≡ lay-type family role → ⊥
 
 -- the first byte's other seven bits
 abbrev pub SevenBits : First → Type 0
@@ -88,24 +88,24 @@ SevenBits b = b .others < 128
 abbrev pub OptionFits : Settings → Opt → Type 0
 OptionFits g (configuring b items) = SevenBits b × All GoodItem items
 OptionFits g (balancing b priority weight) = SevenBits b
-OptionFits g (addressed family role b address reserved protocol port) = SevenBits b × (length address ≡ addressLength family)
+OptionFits g (addressed family role b address reserved protocol port) = SevenBits b × (length address ≡ address-length family)
 OptionFits g (unrecognised type b rest) = SevenBits b × Unknown type × ((b .discardable ≡ true) ⊎ (g .discard ≡ true))
 
 -- ---- entries
 
-unfoldable pub layHead : Head → List ℕ
-layHead h =
+unfoldable pub lay-head : Head → List ℕ
+lay-head h =
     h .start1 ∷ h .start2 ∷ (h .count1 * 16 + h .count2) ∷
     (be16 (h .service) ++ (be16 (h .instance) ++ (h .major ∷ be24 (h .ttl))))
 
-unfoldable pub layGroup : Group → List ℕ
-layGroup e = e .reserved ∷ (bit 0x80 (e .initial-data) + e .spare * 16 + e .counter) ∷ be16 (e .eventgroup)
+unfoldable pub lay-group : Group → List ℕ
+lay-group e = e .reserved ∷ (bit 0x80 (e .initial-data) + e .spare * 16 + e .counter) ∷ be16 (e .eventgroup)
 
-unfoldable pub layEntry : Entry → List ℕ
-layEntry (find h minor) = 0x00 ∷ (layHead h ++ be32 minor)
-layEntry (offer h minor) = 0x01 ∷ (layHead h ++ be32 minor)
-layEntry (subscribe h g) = 0x06 ∷ (layHead h ++ layGroup g)
-layEntry (subscribe-ack h g) = 0x07 ∷ (layHead h ++ layGroup g)
+unfoldable pub lay-entry : Entry → List ℕ
+lay-entry (find h minor) = 0x00 ∷ (lay-head h ++ be32 minor)
+lay-entry (offer h minor) = 0x01 ∷ (lay-head h ++ be32 minor)
+lay-entry (subscribe h g) = 0x06 ∷ (lay-head h ++ lay-group g)
+lay-entry (subscribe-ack h g) = 0x07 ∷ (lay-head h ++ lay-group g)
 
 -- a run of no option may start anywhere; any other lies inside the list of `n` options
 abbrev pub RunFits : (n start count : ℕ) → Type 0
@@ -143,32 +143,32 @@ pub record Payload : Type 0 where
   pub entries : List Entry
   pub options : List Opt
 
-unfoldable pub layOpening : Flags → ℕ → ℕ → List ℕ
-layOpening f spare reserved =
+unfoldable pub lay-opening : Flags → ℕ → ℕ → List ℕ
+lay-opening f spare reserved =
     (bit 0x80 (f .reboot) + bit 0x40 (f .unicast) + bit 0x20 (f .initial-data-control) + spare) ∷ be24 reserved
 
 -- a part with its length in front
 unfoldable pub sized : List ℕ → List ℕ
 sized s = be32 (length s) ++ s
 
-abbrev pub layEntries : List Entry → List ℕ
-layEntries = layAll layEntry
+abbrev pub lay-entries : List Entry → List ℕ
+lay-entries = lay-all lay-entry
 
-abbrev pub layOptions : List Opt → List ℕ
-layOptions = layAll layOption
+abbrev pub lay-options : List Opt → List ℕ
+lay-options = lay-all lay-option
 
 -- a payload behind any opening bytes
-unfoldable pub layParts : List ℕ → List Entry → List Opt → List ℕ
-layParts opening entries options = opening ++ (sized (layEntries entries) ++ sized (layOptions options))
+unfoldable pub lay-parts : List ℕ → List Entry → List Opt → List ℕ
+lay-parts opening entries options = opening ++ (sized (lay-entries entries) ++ sized (lay-options options))
 
 abbrev pub lay : Payload → List ℕ
-lay p = layParts (layOpening (p .flags) (p .spare) (p .reserved)) (p .entries) (p .options)
+lay p = lay-parts (lay-opening (p .flags) (p .spare) (p .reserved)) (p .entries) (p .options)
 
 -- the conditions of demand 3
 pub record Fits (g : Settings) (p : Payload) : Type 0 where
   pub five-bits : p .spare < 32
-  pub entries-short : length (layEntries (p .entries)) ≤ 1388
-  pub options-short : length (layOptions (p .options)) ≤ 1388
+  pub entries-short : length (lay-entries (p .entries)) ≤ 1388
+  pub options-short : length (lay-options (p .options)) ≤ 1388
   pub all-short : length (lay p) ≤ 1400
   pub entries-fit : All (EntryFits (length (p .options))) (p .entries)
   pub options-fit : All (OptionFits g) (p .options)
@@ -182,6 +182,6 @@ pub record Header : Type 0 where
   pub protocol-version : ℕ
 
 -- message id, length, client 0, session, protocol version, interface version 1, type 0x02, return code 0
-unfoldable pub layHeader : Header → List ℕ
-layHeader h =
+unfoldable pub lay-header : Header → List ℕ
+lay-header h =
     be32 0xffff8100 ++ (be32 (h .length-field) ++ (be16 0 ++ (be16 (h .session) ++ (h .protocol-version ∷ 1 ∷ 0x02 ∷ 0 ∷ []))))

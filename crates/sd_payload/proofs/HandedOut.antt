@@ -17,12 +17,12 @@ use Rattle.sd_format.specs.Kinds.{scanned, unscanned}
 use Rattle.sd_format.specs.Frames.{Frame, size, one-option, look-up, next-option, Run, next-of-run, along}
 use Rattle.sd_format.specs.Entries.{Entry, sixteen, next-entry}
 use Rattle.sd_format.specs.Layout.{OptionFits, wire}
-use Rattle.sd_format.proofs.FrameLaws.{layFrame, length-frame, option-says}
+use Rattle.sd_format.proofs.FrameLaws.{lay-frame, length-frame, option-says}
 use Rattle.sd_format.proofs.FieldLaws.{wired}
 use Rattle.sd_option.specs.Reading.{head-of, option-said}
 use Rattle.sd_entry.specs.declared.cursor.EntryCursor.{EntryCursor}
 use Rattle.sd_entry.specs.declared.cursor.EntryStep.{EntryStep}
-use Rattle.sd_entry.specs.Said.{saidAnswer}
+use Rattle.sd_entry.specs.Said.{answer-said}
 use Rattle.sd_entry.specs.Steps.{Stepped}
 use Rattle.sd_index.specs.declared.cursor.OptionCursor.{OptionCursor}
 use Rattle.sd_index.specs.declared.cursor.OptionStep.{OptionStep}
@@ -47,13 +47,13 @@ module _ {C D A B : Type 0} (next : C → Answer A) (move : A → C → C) (next
 -- ---- an option as it is handed out, from its frame
 
 abbrev pub frame-told : Frame → Told
-frame-told f = record { head = head-of f; bytes = layFrame f }
+frame-told f = record { head = head-of f; bytes = lay-frame f }
 
 frame-bytes : (text : List ℕ → Verdict) (s : List ℕ) (at : ℕ) (f : Frame) → Bytes s → one-option text (drop at s) ≡ accepted f
     → told-at s at (head-of f) ≡ frame-told f
 frame-bytes text s at f b e =
     let w = option-says text (drop at s) f e .1 in
-    let same : take (size f) (drop at s) ≡ layFrame f = ap (take (size f)) (sym (w .again (bytes-drop s at b))) ∙ take-at (layFrame f) _ (size f) (length-frame f) in
+    let same : take (size f) (drop at s) ≡ lay-frame f = ap (take (size f)) (sym (w .again (bytes-drop s at b))) ∙ take-at (lay-frame f) _ (size f) (length-frame f) in
     ap (λ (l : List ℕ). record { head = head-of f; bytes = l }) same
 
 pub frames-told : (g : Settings) (os : List Opt) → All (OptionFits g) os → map frame-told (map wire os) ≡ map told os
@@ -76,10 +76,10 @@ drop-map f (suc n) (x ∷ xs) = drop-map f n xs
 
 module _ (s : List ℕ) (next : EntryCursor → EntryStep) (meets : (c : EntryCursor) → Stepped s (c .at) (next c)) where
   pub entries-too : {xs : List Entry} → HandsOut (next-entry s) (behind sixteen) 0 xs → (new : EntryCursor) → new .at ≡ 0
-      → HandsOut (λ c. saidAnswer (next c .answer)) (λ e c. next c .cursor) new xs
+      → HandsOut (λ c. answer-said (next c .answer)) (λ e c. next c .cursor) new xs
   entries-too {xs} hands new first =
-      subst (HandsOut (λ c. saidAnswer (next c .answer)) (λ e c. next c .cursor) new) (map-id xs)
-      (hands-too (next-entry s) (behind sixteen) (λ c. saidAnswer (next c .answer)) (λ c. next c .cursor) (λ c. c .at) (λ e. e)
+      subst (HandsOut (λ c. answer-said (next c .answer)) (λ e c. next c .cursor) new) (map-id xs)
+      (hands-too (next-entry s) (behind sixteen) (λ c. answer-said (next c .answer)) (λ c. next c .cursor) (λ c. c .at) (λ e. e)
       (λ c r e. meets c .answer ∙ e)
       (λ c x e. (meets c .answer ∙ e, meets c .cursor ∙ ap (λ (a : Answer Entry). stands (behind sixteen) a (c .at)) e))
       hands new first)

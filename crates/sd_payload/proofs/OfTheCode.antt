@@ -13,7 +13,7 @@ use Rattle.sd_format.specs.Sequences.{counted}
 use Rattle.sd_format.specs.Frames.{slots, look-up}
 use Rattle.sd_format.specs.Fields.{fields}
 use Rattle.sd_format.specs.Entries.{sixteen, placed-entry, read-entries}
-use Rattle.sd_format.specs.Layout.{layEntry, EntryFits, wire, layEntries, layOptions, Payload}
+use Rattle.sd_format.specs.Layout.{lay-entry, EntryFits, wire, lay-entries, lay-options, Payload}
 use Rattle.sd_format.specs.Payload.{entries-length, entries-part, options-part, Reading, read-payload, shown, handed-out, read-message}
 use Rattle.sd_format.specs.Demand3.{LaidOut, table-left, CursorsAgree}
 use Rattle.sd_format.proofs.SequenceLaws.{all-exact, counted-map}
@@ -76,22 +76,22 @@ module _ (g : Settings) (s tab tab′ : List ℕ) (r : PayloadAnswer) (b : Bytes
         let counts : accepted (summed rd) ≡ accepted (summary (shown rd)) = rw (length-map (rd .frames) fields) refl in
         came ∙ ap (given summed) read ∙ counts ∙ ap (λ (p : Payload). accepted (summary p)) same
 
-    entries-laid : entries-part s ≡ layEntries (q .entries)
+    entries-laid : entries-part s ≡ lay-entries (q .entries)
     unfolding read-entries shown
     entries-laid =
         let (rd, read, same) = reading in
         let n : ℕ = length (rd .frames) in
         let bytes : Bytes (entries-part s) = bytes-entries s b in
-        sym (all-exact (placed-entry n) sixteen layEntry (EntryFits n) (λ e rest w. entry-lay n e rest w) (entry-read n) (λ e w. length-entry e) (λ e w. omega arith)
+        sym (all-exact (placed-entry n) sixteen lay-entry (EntryFits n) (λ e rest w. entry-lay n e rest w) (entry-read n) (λ e w. length-entry e) (λ e w. omega arith)
         (entries-part s) bytes (rd .entries) .0 (read-says g s rd read .entries-read) .1)
-        ∙ ap (λ (p : Payload). layEntries (p .entries)) same
+        ∙ ap (λ (p : Payload). lay-entries (p .entries)) same
 
-    options-laid : options-part s ≡ layOptions (q .options)
+    options-laid : options-part s ≡ lay-options (q .options)
     unfolding shown
     options-laid =
         let (rd, read, same) = reading in
         sym (options-read g (options-part s) (bytes-options s b) (rd .frames) (read-says g s rd read .frames-read) .1)
-        ∙ ap (λ (p : Payload). layOptions (p .options)) same
+        ∙ ap (λ (p : Payload). lay-options (p .options)) same
 
     both : CursorsAgree g s q
     both = cursors g s b q out

@@ -9,14 +9,14 @@ use Rattle.numbers.specs.Answers.{accepted, given}
 use Rattle.sd_format.specs.Settings.{Settings}
 use Rattle.sd_format.specs.Sequences.{HandsOut, counted}
 use Rattle.sd_format.specs.Options.{Opt}
-use Rattle.sd_format.specs.Layout.{layOption, wire, layEntries, layOptions, Payload, lay, Fits, Header, layHeader}
+use Rattle.sd_format.specs.Layout.{lay-option, wire, lay-entries, lay-options, Payload, lay, Fits, Header, lay-header}
 use Rattle.sd_format.specs.Payload.{entries-part, options-part}
 use Rattle.sd_format.specs.Demand3.{LaidOut}
 use Rattle.sd_option.specs.declared.Ordinal.{Ordinal}
 use Rattle.sd_option.specs.Reading.{Head, head-of, option-said}
 use Rattle.sd_entry.specs.declared.cursor.EntryCursor.{EntryCursor}
 use Rattle.sd_entry.specs.declared.cursor.EntryStep.{EntryStep}
-use Rattle.sd_entry.specs.Said.{saidAnswer}
+use Rattle.sd_entry.specs.Said.{answer-said}
 use Rattle.sd_entry.specs.Steps.{Stepped}
 use Rattle.sd_index.specs.declared.lookup.FoundAnswer.{FoundAnswer}
 use Rattle.sd_index.specs.declared.cursor.OptionCursor.{OptionCursor}
@@ -41,7 +41,7 @@ pub record Told : Type 0 where
   pub bytes : List ℕ
 
 abbrev pub told : Opt → Told
-told o = record { head = head-of (wire o); bytes = layOption o }
+told o = record { head = head-of (wire o); bytes = lay-option o }
 
 -- the bytes of an option of which the head was told, at its place in the options part
 abbrev pub told-at : List ℕ → ℕ → Head → Told
@@ -56,12 +56,12 @@ pub record AsLaidOut (q : Payload) (r : PayloadAnswer) (count : ℕ) (tab entrie
   -- the answer tells its flags and counts
   pub answer : payload-said r ≡ accepted (summary q)
   -- the parts are its entries and its options, laid out
-  pub entries-part : entries ≡ layEntries (q .entries)
-  pub options-part : options ≡ layOptions (q .options)
+  pub entries-part : entries ≡ lay-entries (q .entries)
+  pub options-part : options ≡ lay-options (q .options)
   -- the cursors hand out its entries and its options, one after the other, and then 20
   pub entries-handed : (next : EntryCursor → EntryStep) → ((c : EntryCursor) → Stepped entries (c .at) (next c))
       → (new : EntryCursor) → new .at ≡ 0
-      → HandsOut (λ c. saidAnswer (next c .answer)) (λ e c. next c .cursor) new (q .entries)
+      → HandsOut (λ c. answer-said (next c .answer)) (λ e c. next c .cursor) new (q .entries)
   pub options-handed : (next : OptionCursor → OptionStep) → ((c : OptionCursor) → OptionStepped options (c .at .0) (next c))
       → (new : OptionCursor) → new .at .0 ≡ 0
       → HandsOut (λ c. given (told-at options (c .at .0)) (option-said (next c .answer))) (λ o c. next c .cursor) new (map told (q .options))
@@ -85,7 +85,7 @@ pub record OfTheCode (g : Settings) (s tab : List ℕ) (r : PayloadAnswer) : Typ
 
 -- a header with a session that is not 0, and a payload that fits the conditions: their layout is `m`
 abbrev pub MessageLaidOut : Settings → List ℕ → Payload → Type 0
-MessageLaidOut g m q = (h : Header) × (h .session ≡ 0 → ⊥) × Fits g q × (layHeader h ++ lay q ≡ m)
+MessageLaidOut g m q = (h : Header) × (h .session ≡ 0 → ⊥) × Fits g q × (lay-header h ++ lay q ≡ m)
 
 -- the message `m` was read with the answer `r` and left the table `tab`
 pub record OfTheMessage (g : Settings) (m tab : List ℕ) (r : PayloadAnswer) : Type 0 where

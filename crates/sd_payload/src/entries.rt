@@ -4,11 +4,11 @@ use sd_entry::judge_entry;
 ghost use mathlib.Core.Path.{_≡_};
 ghost use Rattle.numbers.specs.Answers.{verdict};
 ghost use Rattle.sd_format.specs.Entries.{read-entries};
-ghost use Rattle.sd_entry.specs.Said.{saidVerdict};
+ghost use Rattle.sd_entry.specs.Said.{verdict-said};
 
 // The first refusal of an entry beside so many options: 11, 12 for run 1, 12 for run 2.
 pub(crate) fn judge_entries(entries: &[u8], options: usize) -> EntryVerdict
-    ensures { λ r. ⌜ saidVerdict r ≡ verdict (read-entries options (now (entries .entry))) ⌝ }
+    ensures { λ r. ⌜ verdict-said r ≡ verdict (read-entries options (now (entries .entry))) ⌝ }
 {
     let mut at: usize = 0;
     while at < entries.len() {

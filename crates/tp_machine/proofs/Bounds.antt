@@ -2,14 +2,14 @@
 use mathlib.Core.Path.{refl}
 use Rattle.numbers.specs.Bytes.{be16, be32, at16, at32}
 use Rattle.numbers.specs.Answers.{refuse_when_else_}
-use Rattle.tp_machine.specs.Segments.{tpType, isSegment, offset, more, payload, withoutTp, header, pasted, written}
-use Rattle.tp_machine.specs.Ranges.{any, touch, hullOf, keep, grow, joined, someTouch}
-use Rattle.tp_machine.specs.Machine.{badRange, badState, judged, after, step, begun, begin, fed}
+use Rattle.tp_machine.specs.Segments.{tp-type, is-segment, offset, more, payload, without-tp, header, pasted, written}
+use Rattle.tp_machine.specs.Ranges.{any, touch, hull-of, keep, grow, joined, some-touch}
+use Rattle.tp_machine.specs.Machine.{bad-range, bad-state, judged, after, step, begun, begin, fed}
 use Rattle.tp_machine.specs.Taking.{complete, ready, taking}
 use Rattle.tp_machine.specs.Bounds.{Bounds}
 
 pub bounds : Bounds
-unfolding be16 be32 at16 at32 refuse_when_else_ tpType isSegment offset more payload withoutTp header pasted written any touch hullOf keep grow joined someTouch badRange badState judged after step begun begin fed complete ready taking
+unfolding be16 be32 at16 at32 refuse_when_else_ tp-type is-segment offset more payload without-tp header pasted written any touch hull-of keep grow joined some-touch bad-range bad-state judged after step begun begin fed complete ready taking
 bounds = record {
   holding = record { filled = refl; full = refl; joins-two = refl };
   highest = (refl, refl);

@@ -12,9 +12,9 @@ use lib.Dec.{leb, ltb, eqb}
 use Rattle.numbers.specs.Answers.{All}
 use Rattle.tp_machine.specs.declared.TpRange.{TpRange}
 use Rattle.tp_machine.specs.Lists.{Pairwise, Rearranged, nothing, first, swap, next}
-use Rattle.tp_machine.specs.Segments.{offset, endOf}
-use Rattle.tp_machine.specs.Ranges.{any, touch, hullOf, unless, keep, growIf, grow, joined, someTouch}
-use Rattle.tp_machine.specs.Meaning.{range, rangeOf, Apart}
+use Rattle.tp_machine.specs.Segments.{offset, end-of}
+use Rattle.tp_machine.specs.Ranges.{any, touch, hull-of, unless, keep, grow-if, grow, joined, some-touch}
+use Rattle.tp_machine.specs.Meaning.{range, range-of, Apart}
 use Rattle.tp_machine.specs.Runs.{around, Lies, holds}
 use Rattle.tp_machine.specs.Theorems.{JoiningCovers, JoiningOrderUnseen}
 use Rattle.tp_machine.proofs.Lists.{or-inv, or-cases, neither, or-swap, and-inv, same-test, all-append, all-map, all-both, any-all, all-any, any-append, any-moved, unmoved, append-moved}
@@ -31,16 +31,16 @@ module _ (P : TpRange → Type 0) where
   all-keep n (x ∷ xs) e = all-unless (touch n x) x (keep n xs) (λ _. e .0) (all-keep n xs (e .1))
 
   -- what the hull with a touched range keeps, growing keeps
-  all-grow : (Q : TpRange → Type 0) (n : TpRange) → ((g r : TpRange) → touch n r ≡ true → P g → Q r → P (hullOf g r)) → (g : TpRange) (rs : List TpRange) → P g → All Q rs → P (grow n g rs)
+  all-grow : (Q : TpRange → Type 0) (n : TpRange) → ((g r : TpRange) → touch n r ≡ true → P g → Q r → P (hull-of g r)) → (g : TpRange) (rs : List TpRange) → P g → All Q rs → P (grow n g rs)
   unfolding grow
   all-grow Q n f g [] p e = p
-  all-grow Q n f g (r ∷ rs) p e = all-grow Q n f (growIf (touch n r) g r) rs (one (touch n r) refl) (e .1)
+  all-grow Q n f g (r ∷ rs) p e = all-grow Q n f (grow-if (touch n r) g r) rs (one (touch n r) refl) (e .1)
     where
-      one : (t : Bool) → touch n r ≡ t → P (growIf t g r)
+      one : (t : Bool) → touch n r ≡ t → P (grow-if t g r)
       one true m = f g r m p (e .0)
       one false m = p
 
-  pub all-joined : (n : TpRange) → ((g r : TpRange) → P g → P r → P (hullOf g r)) → (rs : List TpRange) → P n → All P rs → All P (joined n rs)
+  pub all-joined : (n : TpRange) → ((g r : TpRange) → P g → P r → P (hull-of g r)) → (rs : List TpRange) → P n → All P rs → All P (joined n rs)
   unfolding joined
   all-joined n f rs p e = all-append P (keep n rs) (grow n n rs) (all-keep n rs e) (all-grow P n (λ g r _. f g r) n rs p e)
 
@@ -69,11 +69,11 @@ untouched : (a b : TpRange) → Apart a b → touch a b ≡ false
 untouched a b h = ⊎-elim (λ p. touch-sym a b ∙ apart-left b a p) (λ p. apart-left a b p) h
 
 -- none of a list touch exactly when each two are apart
-pub all-apart : (rs : List TpRange) → (someTouch rs ≡ false) ↔ Pairwise Apart rs
-unfolding someTouch
+pub all-apart : (rs : List TpRange) → (some-touch rs ≡ false) ↔ Pairwise Apart rs
+unfolding some-touch
 all-apart [] = ((λ e. tt), (λ h. refl))
 all-apart (r ∷ rs) = (
-  (λ e. let o = or-inv (any (touch r) rs) (someTouch rs) e in (all-map (λ x. touch r x ≡ false) (Apart r) (apart r) rs (any-all (touch r) rs (o .0)), all-apart rs .0 (o .1))),
+  (λ e. let o = or-inv (any (touch r) rs) (some-touch rs) e in (all-map (λ x. touch r x ≡ false) (Apart r) (apart r) rs (any-all (touch r) rs (o .0)), all-apart rs .0 (o .1))),
   (λ h. neither _ _ (all-any (touch r) rs (all-map (Apart r) (λ x. touch r x ≡ false) (untouched r) rs (h .0))) (all-apart rs .1 (h .1))),
 )
 
@@ -83,16 +83,16 @@ all-apart (r ∷ rs) = (
 abbrev Around : TpRange → TpRange → Type 0
 Around n g = (g .start ≤ n .start) × (n .end ≤ g .end)
 
-around-hull : (n g r : TpRange) → Around n g → Around n (hullOf g r)
-unfolding hullOf
+around-hull : (n g r : TpRange) → Around n g → Around n (hull-of g r)
+unfolding hull-of
 around-hull n g r a = (omega arith, omega arith)
 
 -- a range that is apart from two that meet is apart from their hull
-hull-apart : (x g r n : TpRange) → x .start ≤ x .end → Around n g → touch n r ≡ true → touch x g ≡ false → touch x r ≡ false → touch x (hullOf g r) ≡ false
-unfolding hullOf
+hull-apart : (x g r n : TpRange) → x .start ≤ x .end → Around n g → touch n r ≡ true → touch x g ≡ false → touch x r ≡ false → touch x (hull-of g r) ≡ false
+unfolding hull-of
 hull-apart x g r n w o m a b =
     let h : (n .start ≤ r .end) × (r .start ≤ n .end) = meets n r m in
-    untouched x (hullOf g r) (⊎-elim
+    untouched x (hull-of g r) (⊎-elim
     (λ p. ⊎-elim (λ q. inl (omega arith)) (λ q. absurd (omega arith)) (apart x r b))
     (λ p. ⊎-elim (λ q. absurd (omega arith)) (λ q. inr (omega arith)) (apart x r b))
     (apart x g a))
@@ -107,11 +107,11 @@ grow-apart x n rs w a e =
     (a, (le-refl (n .start), le-refl (n .end))) e .0
 
 -- each that is kept is apart from n, and from those that n touches
-keep-away : (n : TpRange) (rs : List TpRange) → someTouch rs ≡ false → All (λ x. (touch x n ≡ false) × All (Away n x) rs) (keep n rs)
-unfolding keep someTouch
+keep-away : (n : TpRange) (rs : List TpRange) → some-touch rs ≡ false → All (λ x. (touch x n ≡ false) × All (Away n x) rs) (keep n rs)
+unfolding keep some-touch
 keep-away n [] e = tt
 keep-away n (r ∷ rs) e =
-    let h = or-inv (any (touch r) rs) (someTouch rs) e in
+    let h = or-inv (any (touch r) rs) (some-touch rs) e in
     let others : All (λ x. touch r x ≡ false) rs = any-all (touch r) rs (h .0) in
     all-unless (λ x. (touch x n ≡ false) × All (Away n x) (r ∷ rs)) (touch n r) r (keep n rs)
     (λ m. (touch-sym r n ∙ m, (λ t. absurd (true≢false (sym t ∙ m)), all-map (λ x. touch r x ≡ false) (Away n r) (λ x p _. p) rs others)))
@@ -120,25 +120,25 @@ keep-away n (r ∷ rs) e =
     (all-both (λ x. (touch x n ≡ false) × All (Away n x) rs) (λ x. touch r x ≡ false) (keep n rs) (keep-away n rs (h .1)) (all-keep (λ x. touch r x ≡ false) n rs others)))
 
 -- what is kept does not touch, nor does what is put behind it
-keep-apart : (n : TpRange) (rs : List TpRange) → someTouch rs ≡ false → someTouch (keep n rs) ≡ false
-unfolding keep someTouch
+keep-apart : (n : TpRange) (rs : List TpRange) → some-touch rs ≡ false → some-touch (keep n rs) ≡ false
+unfolding keep some-touch
 keep-apart n [] e = refl
 keep-apart n (r ∷ rs) e =
-    let h = or-inv (any (touch r) rs) (someTouch rs) e in
+    let h = or-inv (any (touch r) rs) (some-touch rs) e in
     go (touch n r) (all-any (touch r) (keep n rs) (all-keep (λ x. touch r x ≡ false) n rs (any-all (touch r) rs (h .0)))) (keep-apart n rs (h .1))
   where
-    go : (b : Bool) → any (touch r) (keep n rs) ≡ false → someTouch (keep n rs) ≡ false → someTouch (unless b r (keep n rs)) ≡ false
+    go : (b : Bool) → any (touch r) (keep n rs) ≡ false → some-touch (keep n rs) ≡ false → some-touch (unless b r (keep n rs)) ≡ false
     go true p q = q
     go false p q = neither _ _ p q
 
-behind-apart : (xs : List TpRange) (g : TpRange) → someTouch xs ≡ false → All (λ x. touch x g ≡ false) xs → someTouch (xs ++ (g ∷ [])) ≡ false
-unfolding someTouch any
+behind-apart : (xs : List TpRange) (g : TpRange) → some-touch xs ≡ false → All (λ x. touch x g ≡ false) xs → some-touch (xs ++ (g ∷ [])) ≡ false
+unfolding some-touch any
 behind-apart [] g e a = refl
 behind-apart (x ∷ xs) g e a =
-    let h = or-inv (any (touch x) xs) (someTouch xs) e in
+    let h = or-inv (any (touch x) xs) (some-touch xs) e in
     neither _ _ (any-append (touch x) xs g ∙ neither _ _ (a .0) (h .0)) (behind-apart xs g (h .1) (a .1))
 
-pub joined-apart : (n : TpRange) (rs : List TpRange) → someTouch rs ≡ false → All (λ r. r .start ≤ r .end) rs → someTouch (joined n rs) ≡ false
+pub joined-apart : (n : TpRange) (rs : List TpRange) → some-touch rs ≡ false → All (λ r. r .start ≤ r .end) rs → some-touch (joined n rs) ≡ false
 unfolding joined
 joined-apart n rs e w =
     behind-apart (keep n rs) (grow n n rs) (keep-apart n rs e)
@@ -147,14 +147,14 @@ joined-apart n rs e w =
     (all-both (λ x. (touch x n ≡ false) × All (Away n x) rs) (λ x. x .start ≤ x .end) (keep n rs) (keep-away n rs e) (all-keep (λ x. x .start ≤ x .end) n rs w)))
 
 -- ---- a test that a hull passes exactly when one of the two passes it: one of the joined ranges passes exactly when the new one or an old one does
-module _ (f : TpRange → Bool) (n : TpRange) (hull : (g r : TpRange) → Around n g → touch n r ≡ true → f (hullOf g r) ≡ (f g || f r)) where
+module _ (f : TpRange → Bool) (n : TpRange) (hull : (g r : TpRange) → Around n g → touch n r ≡ true → f (hull-of g r) ≡ (f g || f r)) where
   grow-any : (g : TpRange) (rs : List TpRange) → Around n g → (f (grow n g rs) || any f (keep n rs)) ≡ (f g || any f rs)
   unfolding keep grow any
   grow-any g [] a = refl
   grow-any g (r ∷ rs) a = go (λ h. grow-any h rs) (touch n r) refl
     where
-      go : ((h : TpRange) → Around n h → (f (grow n h rs) || any f (keep n rs)) ≡ (f h || any f rs)) → (t : Bool) → touch n r ≡ t → (f (grow n (growIf t g r) rs) || any f (unless t r (keep n rs))) ≡ (f g || (f r || any f rs))
-      go e true m = e (hullOf g r) (around-hull n g r a) ∙ ap (λ (b : Bool). b || any f rs) (hull g r a m) ∙ or-assoc (f g) (f r) (any f rs)
+      go : ((h : TpRange) → Around n h → (f (grow n h rs) || any f (keep n rs)) ≡ (f h || any f rs)) → (t : Bool) → touch n r ≡ t → (f (grow n (grow-if t g r) rs) || any f (unless t r (keep n rs))) ≡ (f g || (f r || any f rs))
+      go e true m = e (hull-of g r) (around-hull n g r a) ∙ ap (λ (b : Bool). b || any f rs) (hull g r a m) ∙ or-assoc (f g) (f r) (any f rs)
       go e false m = or-swap (f (grow n g rs)) (f r) (any f (keep n rs)) ∙ ap (_||_ (f r)) (e g a) ∙ or-swap (f r) (f g) (any f rs)
 
   joined-any : (rs : List TpRange) → any f (joined n rs) ≡ (f n || any f rs)
@@ -162,16 +162,16 @@ module _ (f : TpRange → Bool) (n : TpRange) (hull : (g r : TpRange) → Around
   joined-any rs = any-append f (keep n rs) (grow n n rs) ∙ grow-any n rs (le-refl (n .start), le-refl (n .end))
 
 -- ---- a test that a hull passes where one of the two does: it stays passed
-module _ (f : TpRange → Bool) (n : TpRange) (hull : (g r : TpRange) → (f g ≡ true) ⊎ (f r ≡ true) → f (hullOf g r) ≡ true) where
+module _ (f : TpRange → Bool) (n : TpRange) (hull : (g r : TpRange) → (f g ≡ true) ⊎ (f r ≡ true) → f (hull-of g r) ≡ true) where
   grow-some : (g : TpRange) (rs : List TpRange) → (f g ≡ true) ⊎ (any f rs ≡ true) → (f (grow n g rs) || any f (keep n rs)) ≡ true
   unfolding keep grow any
   grow-some g [] (inl e) = rw e
   grow-some g [] (inr e) = absurd (false≢true e)
   grow-some g (r ∷ rs) o = go (λ h. grow-some h rs) (touch n r) o
     where
-      go : ((h : TpRange) → (f h ≡ true) ⊎ (any f rs ≡ true) → (f (grow n h rs) || any f (keep n rs)) ≡ true) → (t : Bool) → (f g ≡ true) ⊎ ((f r || any f rs) ≡ true) → (f (grow n (growIf t g r) rs) || any f (unless t r (keep n rs))) ≡ true
+      go : ((h : TpRange) → (f h ≡ true) ⊎ (any f rs ≡ true) → (f (grow n h rs) || any f (keep n rs)) ≡ true) → (t : Bool) → (f g ≡ true) ⊎ ((f r || any f rs) ≡ true) → (f (grow n (grow-if t g r) rs) || any f (unless t r (keep n rs))) ≡ true
       go later true q =
-          later (hullOf g r) (⊎-elim (λ e. inl (hull g r (inl e))) (λ e. ⊎-elim (λ k. inl (hull g r (inr k))) (λ k. inr k) (or-cases (f r) (any f rs) e)) q)
+          later (hull-of g r) (⊎-elim (λ e. inl (hull g r (inl e))) (λ e. ⊎-elim (λ k. inl (hull g r (inr k))) (λ k. inr k) (or-cases (f r) (any f rs) e)) q)
       go later false q =
           or-swap (f (grow n g rs)) (f r) (any f (keep n rs))
           ∙ ⊎-elim (λ e. rw (later g (inl e)) (or-true (f r))) (λ e. ⊎-elim (λ k. rw k) (λ k. rw (later g (inr k)) (or-true (f r))) (or-cases (f r) (any f rs) e)) q
@@ -180,22 +180,22 @@ module _ (f : TpRange → Bool) (n : TpRange) (hull : (g r : TpRange) → (f g �
   unfolding joined
   joined-some rs o = any-append f (keep n rs) (grow n n rs) ∙ grow-some n rs o
 
-lies-around : (s : List ℕ) (r : TpRange) → around s r ≡ true → Around (rangeOf s) r
+lies-around : (s : List ℕ) (r : TpRange) → around s r ≡ true → Around (range-of s) r
 unfolding around
-lies-around s r e = let o = and-inv (leb (r .start) (offset s)) (leb (endOf s) (r .end)) e in (leb-true (r .start) (offset s) (o .0), leb-true (endOf s) (r .end) (o .1))
+lies-around s r e = let o = and-inv (leb (r .start) (offset s)) (leb (end-of s) (r .end)) e in (leb-true (r .start) (offset s) (o .0), leb-true (end-of s) (r .end) (o .1))
 
-is-around : (s : List ℕ) (r : TpRange) → Around (rangeOf s) r → around s r ≡ true
+is-around : (s : List ℕ) (r : TpRange) → Around (range-of s) r → around s r ≡ true
 unfolding around
-is-around s r a = rw (le-leb (r .start) (offset s) (a .0), le-leb (endOf s) (r .end) (a .1))
+is-around s r a = rw (le-leb (r .start) (offset s) (a .0), le-leb (end-of s) (r .end) (a .1))
 
-hull-lies : (s : List ℕ) (g r : TpRange) → (around s g ≡ true) ⊎ (around s r ≡ true) → around s (hullOf g r) ≡ true
-unfolding hullOf
-hull-lies s g r (inl e) = let a = lies-around s g e in is-around s (hullOf g r) (omega arith, omega arith)
-hull-lies s g r (inr e) = let a = lies-around s r e in is-around s (hullOf g r) (omega arith, omega arith)
+hull-lies : (s : List ℕ) (g r : TpRange) → (around s g ≡ true) ⊎ (around s r ≡ true) → around s (hull-of g r) ≡ true
+unfolding hull-of
+hull-lies s g r (inl e) = let a = lies-around s g e in is-around s (hull-of g r) (omega arith, omega arith)
+hull-lies s g r (inr e) = let a = lies-around s r e in is-around s (hull-of g r) (omega arith, omega arith)
 
 -- a segment lies in one of the joined ranges if its range has come, or if it lay in one before
-pub new-lies : (s : List ℕ) (rs : List TpRange) → Lies (joined (rangeOf s) rs) s
-new-lies s rs = joined-some (around s) (rangeOf s) (hull-lies s) rs (inl (is-around s (rangeOf s) (le-refl (offset s), le-refl (endOf s))))
+pub new-lies : (s : List ℕ) (rs : List TpRange) → Lies (joined (range-of s) rs) s
+new-lies s rs = joined-some (around s) (range-of s) (hull-lies s) rs (inl (is-around s (range-of s) (le-refl (offset s), le-refl (end-of s))))
 
 pub still-lies : (s : List ℕ) (n : TpRange) (rs : List TpRange) → Lies rs s → Lies (joined n rs) s
 still-lies s n rs h = joined-some (around s) n (hull-lies s) rs (inr h)
@@ -210,14 +210,14 @@ unfolding holds
 is-held x r p q = rw (le-leb (r .start) x p, lt-ltb x (r .end) q)
 
 -- the hull of two that meet covers what they cover
-hull-covers : (x : ℕ) (n g r : TpRange) → Around n g → touch n r ≡ true → holds x (hullOf g r) ≡ (holds x g || holds x r)
-unfolding hullOf
+hull-covers : (x : ℕ) (n g r : TpRange) → Around n g → touch n r ≡ true → holds x (hull-of g r) ≡ (holds x g || holds x r)
+unfolding hull-of
 hull-covers x n g r a m =
     let h : (n .start ≤ r .end) × (r .start ≤ n .end) = meets n r m in
-    same-test (holds x (hullOf g r)) (holds x g || holds x r) (λ e. there (held x (hullOf g r) e))
-    (λ e. ⊎-elim (λ q. let k = held x g q in is-held x (hullOf g r) (omega arith) (omega arith)) (λ q. let k = held x r q in is-held x (hullOf g r) (omega arith) (omega arith)) (or-cases (holds x g) (holds x r) e))
+    same-test (holds x (hull-of g r)) (holds x g || holds x r) (λ e. there (held x (hull-of g r) e))
+    (λ e. ⊎-elim (λ q. let k = held x g q in is-held x (hull-of g r) (omega arith) (omega arith)) (λ q. let k = held x r q in is-held x (hull-of g r) (omega arith) (omega arith)) (or-cases (holds x g) (holds x r) e))
   where
-    there : (hullOf g r .start ≤ x) × (x < hullOf g r .end) → (holds x g || holds x r) ≡ true
+    there : (hull-of g r .start ≤ x) × (x < hull-of g r .end) → (holds x g || holds x r) ≡ true
     there k = go (leb (g .start) x) refl (ltb x (g .end)) refl
       where
         in-r : r .start ≤ x → x < r .end → (holds x g || holds x r) ≡ true
@@ -232,31 +232,31 @@ pub joining-covers : JoiningCovers
 joining-covers n rs x = joined-any (holds x) n (hull-covers x n) rs
 
 -- ---- a range that begins at 0
-abbrev pub atZero : TpRange → Bool
-atZero r = eqb (r .start) 0
+abbrev pub at-zero : TpRange → Bool
+at-zero r = eqb (r .start) 0
 
-hull-at-zero : (g r : TpRange) → atZero (hullOf g r) ≡ (atZero g || atZero r)
-unfolding hullOf
+hull-at-zero : (g r : TpRange) → at-zero (hull-of g r) ≡ (at-zero g || at-zero r)
+unfolding hull-of
 hull-at-zero g r =
-    same-test (atZero (hullOf g r)) (atZero g || atZero r) (λ e. there (eqb-true (hullOf g r .start) 0 e) (leb (g .start) (r .start)) refl)
-    (λ e. eq-eqb (hullOf g r .start) 0 (⊎-elim (λ p. omega (arith, eqb-true (g .start) 0 p)) (λ p. omega (arith, eqb-true (r .start) 0 p)) (or-cases (atZero g) (atZero r) e)))
+    same-test (at-zero (hull-of g r)) (at-zero g || at-zero r) (λ e. there (eqb-true (hull-of g r .start) 0 e) (leb (g .start) (r .start)) refl)
+    (λ e. eq-eqb (hull-of g r .start) 0 (⊎-elim (λ p. omega (arith, eqb-true (g .start) 0 p)) (λ p. omega (arith, eqb-true (r .start) 0 p)) (or-cases (at-zero g) (at-zero r) e)))
   where
-    there : hullOf g r .start ≡ 0 → (t : Bool) → leb (g .start) (r .start) ≡ t → (atZero g || atZero r) ≡ true
+    there : hull-of g r .start ≡ 0 → (t : Bool) → leb (g .start) (r .start) ≡ t → (at-zero g || at-zero r) ≡ true
     there e true p = rw (eq-eqb (g .start) 0 (omega (arith, leb-true (g .start) (r .start) p)))
-    there e false p = rw (eq-eqb (r .start) 0 (omega (arith, leb-false (g .start) (r .start) p))) (or-true (atZero g))
+    there e false p = rw (eq-eqb (r .start) 0 (omega (arith, leb-false (g .start) (r .start) p))) (or-true (at-zero g))
 
-pub joined-at-zero : (n : TpRange) (rs : List TpRange) → any atZero (joined n rs) ≡ (atZero n || any atZero rs)
-joined-at-zero n rs = joined-any atZero n (λ g r _ _. hull-at-zero g r) rs
+pub joined-at-zero : (n : TpRange) (rs : List TpRange) → any at-zero (joined n rs) ≡ (at-zero n || any at-zero rs)
+joined-at-zero n rs = joined-any at-zero n (λ g r _ _. hull-at-zero g r) rs
 
 -- ---- the order of the ranges
 same-range : (a b : TpRange) → a .start ≡ b .start → a .end ≡ b .end → a ≡ b
 same-range a b p q = ap₂ (λ (s e : ℕ). range s e) p q
 
-hull-swap : (g a b : TpRange) → hullOf (hullOf g a) b ≡ hullOf (hullOf g b) a
-unfolding hullOf
-hull-swap g a b = same-range (hullOf (hullOf g a) b) (hullOf (hullOf g b) a) (omega arith) (omega arith)
+hull-swap : (g a b : TpRange) → hull-of (hull-of g a) b ≡ hull-of (hull-of g b) a
+unfolding hull-of
+hull-swap g a b = same-range (hull-of (hull-of g a) b) (hull-of (hull-of g b) a) (omega arith) (omega arith)
 
-grow-swap : (g a b : TpRange) (s t : Bool) → growIf t (growIf s g a) b ≡ growIf s (growIf t g b) a
+grow-swap : (g a b : TpRange) (s t : Bool) → grow-if t (grow-if s g a) b ≡ grow-if s (grow-if t g b) a
 grow-swap g a b true true = hull-swap g a b
 grow-swap g a b true false = refl
 grow-swap g a b false true = refl
@@ -265,7 +265,7 @@ grow-swap g a b false false = refl
 grow-moved : (n g : TpRange) {rs qs : List TpRange} → Rearranged rs qs → grow n g rs ≡ grow n g qs
 unfolding grow
 grow-moved n g nothing = refl
-grow-moved n g (first {a} r) = grow-moved n (growIf (touch n a) g a) r
+grow-moved n g (first {a} r) = grow-moved n (grow-if (touch n a) g a) r
 grow-moved n g (swap {a} {b} {l}) = ap (λ (h : TpRange). grow n h l) (grow-swap g a b (touch n a) (touch n b))
 grow-moved n g (next r s) = grow-moved n g r ∙ grow-moved n g s
 
@@ -289,11 +289,11 @@ pub joining-order-unseen : JoiningOrderUnseen
 unfolding joined
 joining-order-unseen n rs qs r = rw (grow-moved n n r) (append-moved (keep-moved n r) (grow n n qs ∷ []))
 
-pub touch-moved : {rs qs : List TpRange} → Rearranged rs qs → someTouch rs ≡ someTouch qs
-unfolding someTouch any
+pub touch-moved : {rs qs : List TpRange} → Rearranged rs qs → some-touch rs ≡ some-touch qs
+unfolding some-touch any
 touch-moved nothing = refl
 touch-moved (first {a} {l} {m} r) = rw (any-moved (touch a) r, touch-moved r)
-touch-moved (swap {a} {b} {l}) = rw (touch-sym a b) (turn (touch b a) (any (touch a) l) (any (touch b) l) (someTouch l))
+touch-moved (swap {a} {b} {l}) = rw (touch-sym a b) (turn (touch b a) (any (touch a) l) (any (touch b) l) (some-touch l))
   where
     turn : (t x y z : Bool) → ((t || x) || (y || z)) ≡ ((t || y) || (x || z))
     turn true x y z = refl

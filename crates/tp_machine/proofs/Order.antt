@@ -11,9 +11,9 @@ use Rattle.numbers.specs.Answers.{accepted, refused, Verdict, refuse_when_else_
 use Rattle.tp_machine.specs.declared.TpRange.{TpRange}
 use Rattle.tp_machine.specs.declared.TpEnd.{TpEnd}
 use Rattle.tp_machine.specs.Lists.{Pairwise, Rearranged}
-use Rattle.tp_machine.specs.Machine.{State, badRange, badState, taken, judged, after, step, fed, clear}
-use Rattle.tp_machine.specs.Taking.{isKnown, whole, complete, ready, taking}
-use Rattle.tp_machine.specs.Meaning.{range, rangeOf, Apart, Fine, Good}
+use Rattle.tp_machine.specs.Machine.{State, bad-range, bad-state, taken, judged, after, step, fed, clear}
+use Rattle.tp_machine.specs.Taking.{is-known, whole, complete, ready, taking}
+use Rattle.tp_machine.specs.Meaning.{range, range-of, Apart, Fine, Good}
 use Rattle.tp_machine.specs.Runs.{Same, Alike}
 use Rattle.tp_machine.specs.Theorems.{SetIsOrder, Unseen, OrderUnseen, RunsAlike}
 use Rattle.tp_machine.proofs.Lists.{same-test, all-map, same-elements, any-moved, moved-back, length-moved, one-moved}
@@ -41,7 +41,7 @@ whole-moved : {rs qs : List TpRange} → Rearranged rs qs → whole rs ≡ whole
 whole-moved {rs} {qs} r = same-test (whole rs) (whole qs) (λ e. sym (ap whole (whole-one r e)) ∙ e) (λ e. sym (ap whole (whole-one (moved-back r) e)) ∙ e)
 
 -- 38 or 37 where a state is not complete
-ready-none : (p : State) (room : ℕ) → complete p ≡ false → ready p room ≡ (refuse malformed-state when badState p else refused not-complete)
+ready-none : (p : State) (room : ℕ) → complete p ≡ false → ready p room ≡ (refuse malformed-state when bad-state p else refused not-complete)
 unfolding ready refuse_when_else_
 ready-none p room e = rw e
 
@@ -55,17 +55,17 @@ module _ (limit : ℕ) (end : TpEnd) (rs qs : List TpRange) (r : Rearranged rs q
   q : State
   q = state limit end qs
 
-  bad-moved : badState p ≡ badState q
-  unfolding p q badState badRange
-  bad-moved = rw (length-moved r, any-moved (badRange p) r, touch-moved r)
+  bad-moved : bad-state p ≡ bad-state q
+  unfolding p q bad-state bad-range
+  bad-moved = rw (length-moved r, any-moved (bad-range p) r, touch-moved r)
 
   same-after : (seg : List ℕ) → Same (taken p seg) (taken q seg)
   unfolding p q
-  same-after seg = record { limit = refl; ranges = joining-order-unseen (rangeOf seg) rs qs r; end = refl }
+  same-after seg = record { limit = refl; ranges = joining-order-unseen (range-of seg) rs qs r; end = refl }
 
   judged-moved : (seg : List ℕ) (room : ℕ) → judged p seg room ≡ judged q seg room
   unfolding p q judged
-  judged-moved seg room = rw (bad-moved, length-moved (joining-order-unseen (rangeOf seg) rs qs r))
+  judged-moved seg room = rw (bad-moved, length-moved (joining-order-unseen (range-of seg) rs qs r))
 
   step-moved : (seg buf : List ℕ) → Alike (step p seg buf) (step q seg buf)
   unfolding p q step after
@@ -81,7 +81,7 @@ module _ (limit : ℕ) (end : TpEnd) (rs qs : List TpRange) (r : Rearranged rs q
 
   not-whole : whole rs ≡ false → complete p ≡ false
   unfolding p complete
-  not-whole e = rw (e, and-false (isKnown end)) (and-false (not (badState p)))
+  not-whole e = rw (e, and-false (is-known end)) (and-false (not (bad-state p)))
 
   ready-moved : (room : ℕ) → ready p room ≡ ready q room
   unfolding p q

@@ -14,15 +14,15 @@ use Rattle.numbers.specs.Answers.{accepted, All}
 use Rattle.numbers.proofs.AnswerLaws.{when-pass}
 use Rattle.tp_machine.specs.declared.TpRange.{TpRange}
 use Rattle.tp_machine.specs.Lists.{Latest}
-use Rattle.tp_machine.specs.Segments.{endOf, header, pasted}
-use Rattle.tp_machine.specs.Ranges.{any, hullOf}
-use Rattle.tp_machine.specs.Machine.{State, badState, Out, begin, opened, fed}
-use Rattle.tp_machine.specs.Taking.{complete, endHeld, ready, finished, report, taking}
+use Rattle.tp_machine.specs.Segments.{end-of, header, pasted}
+use Rattle.tp_machine.specs.Ranges.{any, hull-of}
+use Rattle.tp_machine.specs.Machine.{State, bad-state, Out, begin, opened, fed}
+use Rattle.tp_machine.specs.Taking.{complete, end-held, ready, finished, report, taking}
 use Rattle.tp_machine.specs.Meaning.{range, Complete}
 use Rattle.tp_machine.specs.Runs.{admitted, covered, spans, heads, Filled, Reported}
 use Rattle.tp_machine.specs.Theorems.{Given, EveryReport}
 use Rattle.tp_machine.proofs.Lists.{all-map, latest-of, all-latest}
-use Rattle.tp_machine.proofs.Joining.{atZero, is-held}
+use Rattle.tp_machine.proofs.Joining.{at-zero, is-held}
 use Rattle.tp_machine.proofs.Tests.{good-means, complete-means}
 use Rattle.tp_machine.proofs.Writing.{take-more-pasted, header-length}
 use Rattle.tp_machine.proofs.Runs.{ran, all-heads, all-each, Fits, chain-fits, every-run}
@@ -31,8 +31,8 @@ use Rattle.tp_machine.proofs.Runs.{ran, all-heads, all-each, Fits, chai
 pub given : (p : State) (buf : List ℕ) (c : Complete p) → 16 + c .held ≤ length buf → ready p (length buf) ≡ accepted (c .held)
 unfolding ready
 given p buf c h =
-    let e : endHeld (p .ranges) ≡ c .held = ap endHeld (c .one-range) in
-    when-pass malformed-state (badState p) _ (good-means p .1 (c .good)) ∙ when-pass not-complete (not (complete p)) _ (ap not (complete-means p .1 c))
+    let e : end-held (p .ranges) ≡ c .held = ap end-held (c .one-range) in
+    when-pass malformed-state (bad-state p) _ (good-means p .1 (c .good)) ∙ when-pass not-complete (not (complete p)) _ (ap not (complete-means p .1 c))
     ∙ rw e (when-pass (buffer-too-short (16 + c .held)) (ltb (length buf) (16 + c .held)) _ (le-ltb (length buf) (16 + c .held) h))
 
 field-length : (n : ℕ) → length (be32 n) ≡ 4
@@ -65,8 +65,8 @@ module _ (b : List ℕ) (segs : List (List ℕ)) (c : List ℕ) (f : Filled b se
       }
 
 -- ---- the one range of a run that is complete
-fit-hull : (n : ℕ) (g r : TpRange) → 16 + g .end ≤ n → 16 + r .end ≤ n → 16 + hullOf g r .end ≤ n
-unfolding hullOf
+fit-hull : (n : ℕ) (g r : TpRange) → 16 + g .end ≤ n → 16 + r .end ≤ n → 16 + hull-of g r .end ≤ n
+unfolding hull-of
 fit-hull n g r p q = omega arith
 
 module _ (limit : ℕ) (buf : List ℕ) (ss : List (List ℕ)) where
@@ -84,12 +84,12 @@ module _ (limit : ℕ) (buf : List ℕ) (ss : List (List ℕ)) where
   unfolding out segs begin
   ranges-fit =
       rw (ran (opened limit buf) ss .state)
-      (all-each (λ r. 16 + r .end ≤ length buf) (fit-hull (length buf)) (begin limit) segs (all-map (Fits (length buf)) (λ s. 16 + endOf s ≤ length buf) (λ s f. f .1) segs all-fit) tt)
+      (all-each (λ r. 16 + r .end ≤ length buf) (fit-hull (length buf)) (begin limit) segs (all-map (Fits (length buf)) (λ s. 16 + end-of s ≤ length buf) (λ s f. f .1) segs all-fit) tt)
 
   -- a range that begins at 0 has come with a header
   has-header : (e : ℕ) → out .state .ranges ≡ range 0 e ∷ [] → any heads segs ≡ true
   unfolding out segs begin any
-  has-header e q = sym (or-false (any heads segs)) ∙ sym (all-heads (begin limit) segs) ∙ sym (ap (λ (p : State). any atZero (p .ranges)) (ran (opened limit buf) ss .state)) ∙ ap (any atZero) q
+  has-header e q = sym (or-false (any heads segs)) ∙ sym (all-heads (begin limit) segs) ∙ sym (ap (λ (p : State). any at-zero (p .ranges)) (ran (opened limit buf) ss .state)) ∙ ap (any at-zero) q
 
   covers : (e x : ℕ) → out .state .ranges ≡ range 0 e ∷ [] → x < e → any (spans x) segs ≡ true
   unfolding out segs any

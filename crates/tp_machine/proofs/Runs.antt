@@ -13,26 +13,26 @@ use Rattle.tp_machine.specs.declared.TpRange.{TpRange}
 use Rattle.tp_machine.specs.declared.TpEnd.{TpEnd}
 use Rattle.tp_machine.specs.declared.TpEnd.the-variants.{Unknown, Known}
 use Rattle.tp_machine.specs.Lists.{OneOf}
-use Rattle.tp_machine.specs.Segments.{offset, more, endOf, header, written}
-use Rattle.tp_machine.specs.Ranges.{any, hullOf, joined}
+use Rattle.tp_machine.specs.Segments.{offset, more, end-of, header, written}
+use Rattle.tp_machine.specs.Ranges.{any, hull-of, joined}
 use Rattle.tp_machine.specs.Machine.{State, taken, judged, Out, begin, opened, fed}
-use Rattle.tp_machine.specs.Meaning.{rangeOf, Good, Accepted}
-use Rattle.tp_machine.specs.Runs.{Has, Made, Lies, ifAccepted, admitted, holds, covered, spans, brought, heads, final, Ended, Filled}
+use Rattle.tp_machine.specs.Meaning.{range-of, Good, Accepted}
+use Rattle.tp_machine.specs.Runs.{Has, Made, Lies, if-accepted, admitted, holds, covered, spans, brought, heads, final, Ended, Filled}
 use Rattle.tp_machine.specs.Theorems.{EveryRun}
 use Rattle.tp_machine.proofs.Lists.{or-swap, all-map, each-one, latest-of, newest, newest-none, newest-latest}
-use Rattle.tp_machine.proofs.Joining.{all-joined, new-lies, still-lies, joining-covers, atZero, joined-at-zero}
+use Rattle.tp_machine.proofs.Joining.{all-joined, new-lies, still-lies, joining-covers, at-zero, joined-at-zero}
 use Rattle.tp_machine.proofs.Tests.{accepted-means, taken-good}
 use Rattle.tp_machine.proofs.Steps.{step-accepted, step-refused, begin-good}
 use Rattle.tp_machine.proofs.Writing.{written-length, written-head, written-at}
 
 -- ---- what accepted segments make of a state and of a buffer
-unfoldable pub takenAll : State → List (List ℕ) → State
-takenAll p [] = p
-takenAll p (s ∷ ss) = takenAll (taken p s) ss
+unfoldable pub taken-all : State → List (List ℕ) → State
+taken-all p [] = p
+taken-all p (s ∷ ss) = taken-all (taken p s) ss
 
-unfoldable pub writtenAll : List ℕ → List (List ℕ) → List ℕ
-writtenAll b [] = b
-writtenAll b (s ∷ ss) = writtenAll (written b s) ss
+unfoldable pub written-all : List ℕ → List (List ℕ) → List ℕ
+written-all b [] = b
+written-all b (s ∷ ss) = written-all (written b s) ss
 
 -- each of them is accepted there
 abbrev pub Chain : State → ℕ → List (List ℕ) → Type 0
@@ -42,8 +42,8 @@ Chain p room (s ∷ ss) = Accepted p s room × Chain (taken p s) room ss
 -- from state p and buffer b these segments, each accepted, lead to state q and buffer c
 pub record Leads (p : State) (b : List ℕ) (segs : List (List ℕ)) (q : State) (c : List ℕ) : Type 0 where
   pub chain : Chain p (length b) segs
-  pub state : q ≡ takenAll p segs
-  pub buffer : c ≡ writtenAll b segs
+  pub state : q ≡ taken-all p segs
+  pub buffer : c ≡ written-all b segs
 
 -- a run is what its accepted segments make of it
 abbrev Ran : Out → List (List ℕ) → Type 0
@@ -51,15 +51,15 @@ Ran o ss = Leads (o .state) (o .buffer) (admitted o ss) (fed o ss .state) (fed o
 
 -- a segment came, the step left x, and from there the run goes on
 abbrev Goes : State → List ℕ → List ℕ → List (List ℕ) → Out → Type 0
-Goes p b s ss x = Leads p b (ifAccepted (x .answer) s (admitted x ss)) (fed x ss .state) (fed x ss .buffer)
+Goes p b s ss x = Leads p b (if-accepted (x .answer) s (admitted x ss)) (fed x ss .state) (fed x ss .buffer)
 
 -- one more segment in front
 one-more : (p : State) (b s : List ℕ) (segs : List (List ℕ)) (q : State) (c : List ℕ) → Accepted p s (length b) → Leads (taken p s) (written b s) segs q c → Leads p b (s ∷ segs) q c
-unfolding takenAll writtenAll
+unfolding taken-all written-all
 one-more p b s segs q c t k = record { chain = (t, rw (written-length b s (t .segment .long) (t .fits)) at (k .chain)); state = k .state; buffer = k .buffer }
 
 pub ran : (o : Out) (ss : List (List ℕ)) → Ran o ss
-unfolding fed admitted takenAll writtenAll
+unfolding fed admitted taken-all written-all
 ran o [] = record { chain = tt; state = refl; buffer = refl }
 ran o (s ∷ ss) = go (λ x. ran x ss) (judged (o .state) s (length (o .buffer))) refl
   where
@@ -74,47 +74,47 @@ ran o (s ∷ ss) = go (λ x. ran x ss) (judged (o .state) s (length (o .buffer))
 
 -- ---- which places are covered, whether a range begins at 0, which end is known
 module _ (f : TpRange → Bool) (one : (n : TpRange) (rs : List TpRange) → any f (joined n rs) ≡ (f n || any f rs)) where
-  any-taken : (p : State) (ss : List (List ℕ)) → any f (takenAll p ss .ranges) ≡ (any (λ s. f (rangeOf s)) ss || any f (p .ranges))
-  unfolding takenAll any
+  any-taken : (p : State) (ss : List (List ℕ)) → any f (taken-all p ss .ranges) ≡ (any (λ s. f (range-of s)) ss || any f (p .ranges))
+  unfolding taken-all any
   any-taken p [] = refl
   any-taken p (s ∷ ss) =
-      any-taken (taken p s) ss ∙ ap (_||_ (any (λ t. f (rangeOf t)) ss)) (one (rangeOf s) (p .ranges))
-      ∙ or-swap (any (λ t. f (rangeOf t)) ss) (f (rangeOf s)) (any f (p .ranges)) ∙ sym (or-assoc (f (rangeOf s)) (any (λ t. f (rangeOf t)) ss) (any f (p .ranges)))
+      any-taken (taken p s) ss ∙ ap (_||_ (any (λ t. f (range-of t)) ss)) (one (range-of s) (p .ranges))
+      ∙ or-swap (any (λ t. f (range-of t)) ss) (f (range-of s)) (any f (p .ranges)) ∙ sym (or-assoc (f (range-of s)) (any (λ t. f (range-of t)) ss) (any f (p .ranges)))
 
-pub all-covers : (x : ℕ) (p : State) (ss : List (List ℕ)) → covered (takenAll p ss .ranges) x ≡ (any (spans x) ss || covered (p .ranges) x)
+pub all-covers : (x : ℕ) (p : State) (ss : List (List ℕ)) → covered (taken-all p ss .ranges) x ≡ (any (spans x) ss || covered (p .ranges) x)
 all-covers x = any-taken (holds x) (λ n rs. joining-covers n rs x)
 
-pub all-heads : (p : State) (ss : List (List ℕ)) → any atZero (takenAll p ss .ranges) ≡ (any heads ss || any atZero (p .ranges))
-all-heads = any-taken atZero joined-at-zero
+pub all-heads : (p : State) (ss : List (List ℕ)) → any at-zero (taken-all p ss .ranges) ≡ (any heads ss || any at-zero (p .ranges))
+all-heads = any-taken at-zero joined-at-zero
 
 end-after : (m : Bool) (e k : TpEnd) → cond m e k ≡ cond (not m) k e
 end-after true e k = refl
 end-after false e k = refl
 
-pub all-end : (p : State) (ss : List (List ℕ)) → takenAll p ss .end ≡ newest final (λ s. Known (endOf s)) (p .end) ss
-unfolding takenAll newest
+pub all-end : (p : State) (ss : List (List ℕ)) → taken-all p ss .end ≡ newest final (λ s. Known (end-of s)) (p .end) ss
+unfolding taken-all newest
 all-end p [] = refl
-all-end p (s ∷ ss) = all-end (taken p s) ss ∙ ap (λ (e : TpEnd). newest final (λ t. Known (endOf t)) e ss) (end-after (more s) (p .end) (Known (endOf s)))
+all-end p (s ∷ ss) = all-end (taken p s) ss ∙ ap (λ (e : TpEnd). newest final (λ t. Known (end-of t)) e ss) (end-after (more s) (p .end) (Known (end-of s)))
 
-pub all-limit : (p : State) (ss : List (List ℕ)) → takenAll p ss .limit ≡ p .limit
-unfolding takenAll
+pub all-limit : (p : State) (ss : List (List ℕ)) → taken-all p ss .limit ≡ p .limit
+unfolding taken-all
 all-limit p [] = refl
 all-limit p (s ∷ ss) = all-limit (taken p s) ss
 
 -- ---- what each segment's range has, and hulls keep, each range has
-pub all-each : (P : TpRange → Type 0) → ((g r : TpRange) → P g → P r → P (hullOf g r)) → (p : State) (ss : List (List ℕ)) → All (λ s. P (rangeOf s)) ss → All P (p .ranges) → All P (takenAll p ss .ranges)
-unfolding takenAll
+pub all-each : (P : TpRange → Type 0) → ((g r : TpRange) → P g → P r → P (hull-of g r)) → (p : State) (ss : List (List ℕ)) → All (λ s. P (range-of s)) ss → All P (p .ranges) → All P (taken-all p ss .ranges)
+unfolding taken-all
 all-each P f p [] a e = e
-all-each P f p (s ∷ ss) a e = all-each P f (taken p s) ss (a .1) (all-joined P (rangeOf s) f (p .ranges) (a .0) e)
+all-each P f p (s ∷ ss) a e = all-each P f (taken p s) ss (a .1) (all-joined P (range-of s) f (p .ranges) (a .0) e)
 
-pub chain-good : (p : State) (room : ℕ) (ss : List (List ℕ)) → Chain p room ss → Good p → Good (takenAll p ss)
-unfolding takenAll
+pub chain-good : (p : State) (room : ℕ) (ss : List (List ℕ)) → Chain p room ss → Good p → Good (taken-all p ss)
+unfolding taken-all
 chain-good p room [] h g = g
 chain-good p room (s ∷ ss) h g = chain-good (taken p s) room ss (h .1) (taken-good p s room (h .0))
 
 -- each of them is a segment of at least 20 bytes that fits
 abbrev pub Fits : ℕ → List ℕ → Type 0
-Fits room s = (20 ≤ length s) × (16 + endOf s ≤ room)
+Fits room s = (20 ≤ length s) × (16 + end-of s ≤ room)
 
 pub chain-fits : (p : State) (room : ℕ) (ss : List (List ℕ)) → Chain p room ss → All (Fits room) ss
 chain-fits p room [] h = tt
@@ -140,56 +140,56 @@ module _ (place : List ℕ → ℕ) (segs : List (List ℕ)) (x y : ℕ) (a : Ha
       go true p = inr (omega (arith, leb-true x y p))
       go false p = inl (omega (arith, leb-false x y p))
 
-hull-made : (segs : List (List ℕ)) (g r : TpRange) → Made segs g → Made segs r → Made segs (hullOf g r)
-unfolding hullOf
+hull-made : (segs : List (List ℕ)) (g r : TpRange) → Made segs g → Made segs r → Made segs (hull-of g r)
+unfolding hull-of
 hull-made segs g r a b = record {
   begins-at = has-least offset segs (g .start) (r .start) (a .begins-at) (b .begins-at);
-  ends-at = has-greatest endOf segs (g .end) (r .end) (a .ends-at) (b .ends-at);
+  ends-at = has-greatest end-of segs (g .end) (r .end) (a .ends-at) (b .ends-at);
 }
 
-all-made : (segs : List (List ℕ)) (p : State) → p .ranges ≡ [] → All (Made segs) (takenAll p segs .ranges)
+all-made : (segs : List (List ℕ)) (p : State) → p .ranges ≡ [] → All (Made segs) (taken-all p segs .ranges)
 all-made segs p e =
     all-each (Made segs) (hull-made segs) p segs
-    (all-map (λ s. OneOf s segs) (λ s. Made segs (rangeOf s)) (λ s o. record { begins-at = record { segment = s; among = o; there = refl }; ends-at = record { segment = s; among = o; there = refl } }) segs (each-one segs)) (rw e tt)
+    (all-map (λ s. OneOf s segs) (λ s. Made segs (range-of s)) (λ s o. record { begins-at = record { segment = s; among = o; there = refl }; ends-at = record { segment = s; among = o; there = refl } }) segs (each-one segs)) (rw e tt)
 
-stays : (s : List ℕ) (p : State) (ss : List (List ℕ)) → Lies (p .ranges) s → Lies (takenAll p ss .ranges) s
-unfolding takenAll
+stays : (s : List ℕ) (p : State) (ss : List (List ℕ)) → Lies (p .ranges) s → Lies (taken-all p ss .ranges) s
+unfolding taken-all
 stays s p [] h = h
-stays s p (t ∷ ss) h = stays s (taken p t) ss (still-lies s (rangeOf t) (p .ranges) h)
+stays s p (t ∷ ss) h = stays s (taken p t) ss (still-lies s (range-of t) (p .ranges) h)
 
-all-lie : (p : State) (ss : List (List ℕ)) → All (Lies (takenAll p ss .ranges)) ss
-unfolding takenAll
+all-lie : (p : State) (ss : List (List ℕ)) → All (Lies (taken-all p ss .ranges)) ss
+unfolding taken-all
 all-lie p [] = tt
 all-lie p (s ∷ ss) = (stays s (taken p s) ss (new-lies s (p .ranges)), all-lie (taken p s) ss)
 
 -- ---- the newest bytes: place i of a buffer, of which a segment s gives it what it gives exactly when a test passes
-pub all-length : (b : List ℕ) (ss : List (List ℕ)) → All (Fits (length b)) ss → length (writtenAll b ss) ≡ length b
-unfolding writtenAll
+pub all-length : (b : List ℕ) (ss : List (List ℕ)) → All (Fits (length b)) ss → length (written-all b ss) ≡ length b
+unfolding written-all
 all-length b [] a = refl
 all-length b (s ∷ ss) a =
     let e = written-length b s (a .0 .0) (a .0 .1) in
     all-length (written b s) ss (rw e (a .1)) ∙ e
 
 module _ (i : ℕ) (test : List ℕ → Bool) (gives : List ℕ → ℕ) (one : (b s : List ℕ) → Fits (length b) s → getD (written b s) i 0 ≡ cond (test s) (gives s) (getD b i 0)) where
-  pub all-newest : (b : List ℕ) (ss : List (List ℕ)) → All (Fits (length b)) ss → getD (writtenAll b ss) i 0 ≡ newest test gives (getD b i 0) ss
-  unfolding writtenAll newest
+  pub all-newest : (b : List ℕ) (ss : List (List ℕ)) → All (Fits (length b)) ss → getD (written-all b ss) i 0 ≡ newest test gives (getD b i 0) ss
+  unfolding written-all newest
   all-newest b [] a = refl
   all-newest b (s ∷ ss) a = all-newest (written b s) ss (rw (written-length b s (a .0 .0) (a .0 .1)) (a .1)) ∙ ap (λ (v : ℕ). newest test gives v ss) (one b s (a .0))
 
-pub newest-byte : (x : ℕ) (b : List ℕ) (ss : List (List ℕ)) → All (Fits (length b)) ss → getD (writtenAll b ss) (16 + x) 0 ≡ newest (spans x) (brought x) (getD b (16 + x) 0) ss
+pub newest-byte : (x : ℕ) (b : List ℕ) (ss : List (List ℕ)) → All (Fits (length b)) ss → getD (written-all b ss) (16 + x) 0 ≡ newest (spans x) (brought x) (getD b (16 + x) 0) ss
 newest-byte x = all-newest (16 + x) (spans x) (brought x) (λ b s f. written-at b s (f .0) (f .1) x)
 
-pub newest-header : (i : ℕ) → i < 16 → (b : List ℕ) (ss : List (List ℕ)) → All (Fits (length b)) ss → getD (writtenAll b ss) i 0 ≡ newest heads (λ s. getD (header s) i 0) (getD b i 0) ss
+pub newest-header : (i : ℕ) → i < 16 → (b : List ℕ) (ss : List (List ℕ)) → All (Fits (length b)) ss → getD (written-all b ss) i 0 ≡ newest heads (λ s. getD (header s) i 0) (getD b i 0) ss
 newest-header i h = all-newest i heads (λ s. getD (header s) i 0) (λ b s f. written-head b s (f .0) (f .1) i h)
 
 -- ---- the theorem
-ended : (p : State) (ss : List (List ℕ)) → p .end ≡ Unknown → Ended ss (takenAll p ss .end)
+ended : (p : State) (ss : List (List ℕ)) → p .end ≡ Unknown → Ended ss (taken-all p ss .end)
 ended p ss e = record {
-  by = λ s l. all-end p ss ∙ newest-latest final (λ t. Known (endOf t)) (p .end) ss s l;
-  by-none = λ h. all-end p ss ∙ newest-none final (λ t. Known (endOf t)) (p .end) ss h ∙ e;
+  by = λ s l. all-end p ss ∙ newest-latest final (λ t. Known (end-of t)) (p .end) ss s l;
+  by-none = λ h. all-end p ss ∙ newest-none final (λ t. Known (end-of t)) (p .end) ss h ∙ e;
 }
 
-filled : (b : List ℕ) (ss : List (List ℕ)) → All (Fits (length b)) ss → Filled b ss (writtenAll b ss)
+filled : (b : List ℕ) (ss : List (List ℕ)) → All (Fits (length b)) ss → Filled b ss (written-all b ss)
 filled b ss a = record {
   size = all-length b ss a;
   covers = λ x s l. newest-byte x b ss a ∙ newest-latest (spans x) (brought x) (getD b (16 + x) 0) ss s l;

@@ -14,7 +14,7 @@ use Rattle.numbers.specs.Answers.{accepted, refused, Verdict, pass}
 use Rattle.numbers.proofs.AnswerLaws.{not-refused}
 use Rattle.tp_machine.specs.Segments.{written}
 use Rattle.tp_machine.specs.Machine.{highest, State, fresh, taken, judged, after, step, begin, clear}
-use Rattle.tp_machine.specs.Meaning.{rangeOf, Good}
+use Rattle.tp_machine.specs.Meaning.{range-of, Good}
 use Rattle.tp_machine.specs.Runs.{begins, comes, clears}
 use Rattle.tp_machine.specs.Theorems.{Stepped, EveryStep, BytesUnseen, RangesDepend, NeverMalformed}
 use Rattle.tp_machine.proofs.Joining.{joining-order-unseen}
@@ -41,7 +41,7 @@ pub ranges-depend : RangesDepend
 ranges-depend p q seg b c x y r =
     let after-p : step p seg b .state ≡ taken p seg = every-step p seg b .accepts x .0 in
     let after-q : step q seg c .state ≡ taken q seg = every-step q seg c .accepts y .0 in
-    rw (after-p, after-q) (joining-order-unseen (rangeOf seg) (p .ranges) (q .ranges) r)
+    rw (after-p, after-q) (joining-order-unseen (range-of seg) (p .ranges) (q .ranges) r)
 
 pub step-accepted : (p : State) (seg buf : List ℕ) (u : Unit {0}) → judged p seg (length buf) ≡ accepted u → step p seg buf ≡ record { answer = pass; state = taken p seg; buffer = written buf seg }
 unfolding step after

@@ -16,11 +16,11 @@ use Rattle.tp_machine.specs.declared.TpRange.{TpRange}
 use Rattle.tp_machine.specs.declared.TpEnd.{TpEnd}
 use Rattle.tp_machine.specs.declared.TpEnd.the-variants.{Unknown, Known}
 use Rattle.tp_machine.specs.Lists.{OneOf}
-use Rattle.tp_machine.specs.Segments.{tpType, isSegment, offset, more, size, endOf}
-use Rattle.tp_machine.specs.Ranges.{any, hullOf, someTouch}
-use Rattle.tp_machine.specs.Machine.{most, highest, State, badRange, endPast, badState, tooBig, notAligned, conflicts, previous, tooShort, taken, tooMany, judged}
-use Rattle.tp_machine.specs.Taking.{isKnown, whole, complete}
-use Rattle.tp_machine.specs.Meaning.{types, range, rangeOf, Fine, Within, Good, Agrees, Accepted}
+use Rattle.tp_machine.specs.Segments.{tp-type, is-segment, offset, more, size, end-of}
+use Rattle.tp_machine.specs.Ranges.{any, hull-of, some-touch}
+use Rattle.tp_machine.specs.Machine.{most, highest, State, bad-range, end-past, bad-state, too-big, not-aligned, conflicts, previous, too-short, taken, too-many, judged}
+use Rattle.tp_machine.specs.Taking.{is-known, whole, complete}
+use Rattle.tp_machine.specs.Meaning.{types, range, range-of, Fine, Within, Good, Agrees, Accepted}
 use Rattle.tp_machine.specs.Theorems.{SegmentMeans, GoodMeans, AcceptedMeans, CompleteMeans}
 use Rattle.tp_machine.proofs.Lists.{or-inv, or-cases, neither, and-inv, and-fails, not-both, all-map, any-all, all-any}
 use Rattle.tp_machine.proofs.Joining.{all-joined, all-apart, joined-apart}
@@ -34,15 +34,15 @@ one-of-means x (y ∷ ys) = (
   (λ o. ⊎-elim (λ p. rw (eq-eqb x y p)) (λ p. rw (one-of-means x ys .1 p) (or-true (eqb x y))) o),
 )
 
-type-test : (t : ℕ) → tpType t ≡ any (eqb t) types
-unfolding tpType any
+type-test : (t : ℕ) → tp-type t ≡ any (eqb t) types
+unfolding tp-type any
 type-test t = rw (or-false (eqb t 0xa1))
 
-type-means : (t : ℕ) → (tpType t ≡ true) ↔ OneOf t types
+type-means : (t : ℕ) → (tp-type t ≡ true) ↔ OneOf t types
 type-means t = ((λ e. one-of-means t types .0 (sym (type-test t) ∙ e)), (λ o. type-test t ∙ one-of-means t types .1 o))
 
 pub segment-means : SegmentMeans
-unfolding isSegment
+unfolding is-segment
 segment-means s = (
   (λ e.
       let a = and-inv (not (ltb (length s) 20)) _ e in
@@ -54,40 +54,40 @@ segment-means s = (
 )
 
 -- ---- 38
-fine-means : (p : State) (r : TpRange) → (badRange p r ≡ false) ↔ Fine p r
-unfolding badRange
+fine-means : (p : State) (r : TpRange) → (bad-range p r ≡ false) ↔ Fine p r
+unfolding bad-range
 fine-means p r = (
   (λ e. let a = or-inv (ltb (r .end) (r .start)) _ e in record { forth = ltb-false (r .end) (r .start) (a .0); within = ltb-false (p .limit) (r .end) (a .1) }),
   (λ f. neither _ _ (le-ltb (r .end) (r .start) (f .forth)) (le-ltb (p .limit) (r .end) (f .within))),
 )
 
-within-means : (e : TpEnd) (x : ℕ) → (endPast e x ≡ false) ↔ Within e x
+within-means : (e : TpEnd) (x : ℕ) → (end-past e x ≡ false) ↔ Within e x
 within-means Unknown x = ((λ e. tt), (λ h. refl))
 within-means (Known e) x = (ltb-false x e, le-ltb x e)
 
 pub good-means : GoodMeans
-unfolding badState
+unfolding bad-state
 good-means p = (
   (λ e.
       let a = or-inv (ltb most (length (p .ranges))) _ e in
       let b = or-inv (ltb highest (p .limit)) _ (a .1) in
-      let c = or-inv (endPast (p .end) (p .limit)) _ (b .1) in
-      let d = or-inv (any (badRange p) (p .ranges)) (someTouch (p .ranges)) (c .1) in
+      let c = or-inv (end-past (p .end) (p .limit)) _ (b .1) in
+      let d = or-inv (any (bad-range p) (p .ranges)) (some-touch (p .ranges)) (c .1) in
       record {
         few = ltb-false most (length (p .ranges)) (a .0);
         low = ltb-false highest (p .limit) (b .0);
         end-within = within-means (p .end) (p .limit) .0 (c .0);
-        each = all-map (λ r. badRange p r ≡ false) (Fine p) (λ r. fine-means p r .0) (p .ranges) (any-all (badRange p) (p .ranges) (d .0));
+        each = all-map (λ r. bad-range p r ≡ false) (Fine p) (λ r. fine-means p r .0) (p .ranges) (any-all (bad-range p) (p .ranges) (d .0));
         apart = all-apart (p .ranges) .0 (d .1);
       }),
   (λ g.
-      let each = all-map (Fine p) (λ r. badRange p r ≡ false) (λ r. fine-means p r .1) (p .ranges) (g .each) in
+      let each = all-map (Fine p) (λ r. bad-range p r ≡ false) (λ r. fine-means p r .1) (p .ranges) (g .each) in
       neither _ _ (le-ltb most (length (p .ranges)) (g .few)) (neither _ _ (le-ltb highest (p .limit) (g .low))
-      (neither _ _ (within-means (p .end) (p .limit) .1 (g .end-within)) (neither _ _ (all-any (badRange p) (p .ranges) each) (all-apart (p .ranges) .1 (g .apart)))))),
+      (neither _ _ (within-means (p .end) (p .limit) .1 (g .end-within)) (neither _ _ (all-any (bad-range p) (p .ranges) each) (all-apart (p .ranges) .1 (g .apart)))))),
 )
 
 -- ---- 31 to 35
-aligned-means : (seg : List ℕ) → (notAligned seg ≡ false) ↔ (more seg ≡ true → size seg % 16 ≡ 0)
+aligned-means : (seg : List ℕ) → (not-aligned seg ≡ false) ↔ (more seg ≡ true → size seg % 16 ≡ 0)
 aligned-means seg = (
   (λ e h. eqb-true (size seg % 16) 0 (not-false (eqb (size seg % 16) 0) (and-fails (more seg) (not (eqb (size seg % 16) 0)) e h))),
   (λ f. not-both (more seg) (not (eqb (size seg % 16) 0)) (λ h. ap not (eq-eqb (size seg % 16) 0 (f h)))),
@@ -104,34 +104,34 @@ pub accepted-means : AcceptedMeans
 unfolding judged
 accepted-means p seg room = (
   (λ e.
-      let a = when-accepted malformed-state (badState p) _ tt e in
-      let b = when-accepted not-a-segment (not (isSegment seg)) _ tt (a .1) in
-      let c = when-accepted (segment-too-big (offset seg) (size seg) (p .limit)) (tooBig p seg) _ tt (b .1) in
-      let d = when-accepted (unaligned (offset seg) (size seg)) (notAligned seg) _ tt (c .1) in
-      let f = when-accepted (conflicting-end (previous (p .end)) (endOf seg)) (conflicts (p .end) (more seg) (endOf seg)) _ tt (d .1) in
-      let g = when-accepted (buffer-too-short (16 + endOf seg)) (tooShort seg room) _ tt (f .1) in
-      let h = when-accepted ranges-full (tooMany p seg) _ tt (g .1) in
+      let a = when-accepted malformed-state (bad-state p) _ tt e in
+      let b = when-accepted not-a-segment (not (is-segment seg)) _ tt (a .1) in
+      let c = when-accepted (segment-too-big (offset seg) (size seg) (p .limit)) (too-big p seg) _ tt (b .1) in
+      let d = when-accepted (unaligned (offset seg) (size seg)) (not-aligned seg) _ tt (c .1) in
+      let f = when-accepted (conflicting-end (previous (p .end)) (end-of seg)) (conflicts (p .end) (more seg) (end-of seg)) _ tt (d .1) in
+      let g = when-accepted (buffer-too-short (16 + end-of seg)) (too-short seg room) _ tt (f .1) in
+      let h = when-accepted ranges-full (too-many p seg) _ tt (g .1) in
       record {
         good = good-means p .0 (a .0);
-        segment = segment-means seg .0 (not-false (isSegment seg) (b .0));
-        within = ltb-false (p .limit) (endOf seg) (c .0);
+        segment = segment-means seg .0 (not-false (is-segment seg) (b .0));
+        within = ltb-false (p .limit) (end-of seg) (c .0);
         aligned = aligned-means seg .0 (d .0);
-        agrees = agrees-means (p .end) (more seg) (endOf seg) .0 (f .0);
-        fits = ltb-false room (16 + endOf seg) (g .0);
+        agrees = agrees-means (p .end) (more seg) (end-of seg) .0 (f .0);
+        fits = ltb-false room (16 + end-of seg) (g .0);
         few = ltb-false most (length (taken p seg .ranges)) (h .0);
       }),
   (λ t.
-      when-pass malformed-state (badState p) _ (good-means p .1 (t .good))
-      ∙ when-pass not-a-segment (not (isSegment seg)) _ (ap not (segment-means seg .1 (t .segment)))
-      ∙ when-pass (segment-too-big (offset seg) (size seg) (p .limit)) (tooBig p seg) _ (le-ltb (p .limit) (endOf seg) (t .within))
-      ∙ when-pass (unaligned (offset seg) (size seg)) (notAligned seg) _ (aligned-means seg .1 (t .aligned))
-      ∙ when-pass (conflicting-end (previous (p .end)) (endOf seg)) (conflicts (p .end) (more seg) (endOf seg)) _ (agrees-means (p .end) (more seg) (endOf seg) .1 (t .agrees))
-      ∙ when-pass (buffer-too-short (16 + endOf seg)) (tooShort seg room) _ (le-ltb room (16 + endOf seg) (t .fits))
-      ∙ when-pass ranges-full (tooMany p seg) _ (le-ltb most (length (taken p seg .ranges)) (t .few))),
+      when-pass malformed-state (bad-state p) _ (good-means p .1 (t .good))
+      ∙ when-pass not-a-segment (not (is-segment seg)) _ (ap not (segment-means seg .1 (t .segment)))
+      ∙ when-pass (segment-too-big (offset seg) (size seg) (p .limit)) (too-big p seg) _ (le-ltb (p .limit) (end-of seg) (t .within))
+      ∙ when-pass (unaligned (offset seg) (size seg)) (not-aligned seg) _ (aligned-means seg .1 (t .aligned))
+      ∙ when-pass (conflicting-end (previous (p .end)) (end-of seg)) (conflicts (p .end) (more seg) (end-of seg)) _ (agrees-means (p .end) (more seg) (end-of seg) .1 (t .agrees))
+      ∙ when-pass (buffer-too-short (16 + end-of seg)) (too-short seg room) _ (le-ltb room (16 + end-of seg) (t .fits))
+      ∙ when-pass ranges-full (too-many p seg) _ (le-ltb most (length (taken p seg .ranges)) (t .few))),
 )
 
 -- ---- 37
-known-means : (e : TpEnd) → isKnown e ≡ true → (x : ℕ) × (e ≡ Known x)
+known-means : (e : TpEnd) → is-known e ≡ true → (x : ℕ) × (e ≡ Known x)
 known-means Unknown h = absurd (false≢true h)
 known-means (Known x) h = (x, refl)
 
@@ -144,12 +144,12 @@ pub complete-means : CompleteMeans
 unfolding complete
 complete-means p = (
   (λ e.
-      let a = and-inv (not (badState p)) _ e in
-      let b = and-inv (isKnown (p .end)) (whole (p .ranges)) (a .1) in
+      let a = and-inv (not (bad-state p)) _ e in
+      let b = and-inv (is-known (p .end)) (whole (p .ranges)) (a .1) in
       let k = known-means (p .end) (b .0) in
       let w = whole-means (p .ranges) (b .1) in
-      record { good = good-means p .0 (not-true (badState p) (a .0)); end = k .0; known = k .1; held = w .0; one-range = w .1 }),
-  (λ c. rw (good-means p .1 (c .good), ap isKnown (c .known), ap whole (c .one-range))),
+      record { good = good-means p .0 (not-true (bad-state p) (a .0)); end = k .0; known = k .1; held = w .0; one-range = w .1 }),
+  (λ c. rw (good-means p .1 (c .good), ap is-known (c .known), ap whole (c .one-range))),
 )
 
 -- ---- what is left of an accepted segment
@@ -157,8 +157,8 @@ within-after : (m : Bool) (e : TpEnd) (x limit : ℕ) → x ≤ limit → Within
 within-after true e x limit h w = w
 within-after false e x limit h w = h
 
-fine-hull : (p : State) (g r : TpRange) → Fine p g → Fine p r → Fine p (hullOf g r)
-unfolding hullOf
+fine-hull : (p : State) (g r : TpRange) → Fine p g → Fine p r → Fine p (hull-of g r)
+unfolding hull-of
 fine-hull p g r f h = record { forth = omega arith; within = omega arith }
 
 -- a range that was fine stays so
@@ -171,8 +171,8 @@ taken-good p seg room t =
     record {
       few = t .few;
       low = g .low;
-      end-within = within-after (more seg) (p .end) (endOf seg) (p .limit) (t .within) (g .end-within);
-      each = all-joined (Fine (taken p seg)) (rangeOf seg) (fine-hull (taken p seg)) (p .ranges) (record { forth = omega arith; within = t .within }) (all-map (Fine p) (Fine (taken p seg)) (still-fine p seg) (p .ranges) (g .each));
+      end-within = within-after (more seg) (p .end) (end-of seg) (p .limit) (t .within) (g .end-within);
+      each = all-joined (Fine (taken p seg)) (range-of seg) (fine-hull (taken p seg)) (p .ranges) (record { forth = omega arith; within = t .within }) (all-map (Fine p) (Fine (taken p seg)) (still-fine p seg) (p .ranges) (g .each));
       apart = all-apart (taken p seg .ranges) .0
-          (joined-apart (rangeOf seg) (p .ranges) (all-apart (p .ranges) .1 (g .apart)) (all-map (Fine p) (λ r. r .start ≤ r .end) (λ r f. f .forth) (p .ranges) (g .each)));
+          (joined-apart (range-of seg) (p .ranges) (all-apart (p .ranges) .1 (g .apart)) (all-map (Fine p) (λ r. r .start ≤ r .end) (λ r f. f .forth) (p .ranges) (g .each)));
     }

@@ -10,8 +10,8 @@ use lib.Dec.{leb, ltb}
 use lib.ListN.{length, take, drop, getD, length-append, length-take, length-drop, length-set, List·getD-append}
 use lib.Seq.{length-take-le, getD-append-add, getD-take, getD-drop, getD-set-same, getD-set-other, take-add, ext-getD}
 use Rattle.tp_machine.specs.declared.TpRange.{TpRange}
-use Rattle.tp_machine.specs.Segments.{offset, endOf, payload, withoutTp, header, pasted, written}
-use Rattle.tp_machine.specs.Meaning.{Cleared, rangeOf}
+use Rattle.tp_machine.specs.Segments.{offset, end-of, payload, without-tp, header, pasted, written}
+use Rattle.tp_machine.specs.Meaning.{Cleared, range-of}
 use Rattle.tp_machine.specs.Runs.{holds, spans, brought, heads}
 use Rattle.tp_machine.specs.Theorems.{HeaderMeans}
 use Rattle.tp_machine.proofs.Joining.{held}
@@ -77,18 +77,18 @@ module _ (d : List ℕ) (at : ℕ) (s : List ℕ) (n : ℕ) (inner : at + length
   take-more-pasted e = take-add n e (pasted d at s) ∙ rw (take-pasted, drop-pasted)
 
 -- ---- a segment's bytes in the buffer
-without-tp : (t : ℕ) → Cleared t (withoutTp t)
-unfolding withoutTp
-without-tp t = ((λ e. omega arith), (λ e. omega arith))
+tp-cleared : (t : ℕ) → Cleared t (without-tp t)
+unfolding without-tp
+tp-cleared t = ((λ e. omega arith), (λ e. omega arith))
 
 pub header-means : HeaderMeans
 unfolding header
 header-means s long =
     let n : length (take 16 s) ≡ 16 = length-take-le 16 s (omega arith) in
     record {
-      size = length-set (take 16 s) 14 (withoutTp (getD s 14 0)) ∙ n;
-      type = rw (getD-set-same (take 16 s) 14 (withoutTp (getD s 14 0)) 0 (omega arith)) (without-tp (getD s 14 0));
-      others = λ i h ne. getD-set-other (take 16 s) 14 i (withoutTp (getD s 14 0)) 0 ne ∙ getD-take 16 s i 0 h;
+      size = length-set (take 16 s) 14 (without-tp (getD s 14 0)) ∙ n;
+      type = rw (getD-set-same (take 16 s) 14 (without-tp (getD s 14 0)) 0 (omega arith)) (tp-cleared (getD s 14 0));
+      others = λ i h ne. getD-set-other (take 16 s) 14 i (without-tp (getD s 14 0)) 0 ne ∙ getD-take 16 s i 0 h;
     }
 
 pub header-length : (s : List ℕ) → 20 ≤ length s → length (header s) ≡ 16
@@ -102,7 +102,7 @@ missed x r = go (leb (r .start) x) refl
     go true p e = inr (ltb-false x (r .end) e)
     go false p e = inl (leb-false (r .start) x p)
 
-module _ (buf s : List ℕ) (long : 20 ≤ length s) (fits : 16 + endOf s ≤ length buf) where
+module _ (buf s : List ℕ) (long : 20 ≤ length s) (fits : 16 + end-of s ≤ length buf) where
   -- the buffer with the header, where it is brought
   under : Bool → List ℕ
   under t = cond t (pasted buf 0 (header s)) buf
@@ -141,13 +141,13 @@ module _ (buf s : List ℕ) (long : 20 ≤ length s) (fits : 16 + endOf s ≤ le
   unfolding written under
   written-at x = go (spans x s) refl
     where
-      behind : (x < offset s) ⊎ (endOf s ≤ x) → (16 + x < 16 + offset s) ⊎ (16 + offset s + length (payload s) ≤ 16 + x)
+      behind : (x < offset s) ⊎ (end-of s ≤ x) → (16 + x < 16 + offset s) ⊎ (16 + offset s + length (payload s) ≤ 16 + x)
       behind (inl h) = inl (omega arith)
       behind (inr h) = inr (omega arith)
 
       go : (t : Bool) → spans x s ≡ t → getD (written buf s) (16 + x) 0 ≡ cond t (brought x s) (getD buf (16 + x) 0)
       go true e =
-          let k = held x (rangeOf s) e in
+          let k = held x (range-of s) e in
           let z : 16 + x - (16 + offset s) ≡ x - offset s = omega arith in
           pasted-in (under (heads s)) (16 + offset s) (payload s) room (16 + x) (omega arith) (omega arith) ∙ ap (λ (m : ℕ). getD (payload s) m 0) z
-      go false e = pasted-out (under (heads s)) (16 + offset s) (payload s) room (16 + x) (behind (missed x (rangeOf s) e)) ∙ under-rest (heads s) (16 + x) (omega arith)
+      go false e = pasted-out (under (heads s)) (16 + offset s) (payload s) room (16 + x) (behind (missed x (range-of s) e)) ∙ under-rest (heads s) (16 + x) (omega arith)

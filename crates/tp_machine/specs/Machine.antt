@@ -10,8 +10,8 @@ use Rattle.numbers.specs.Answers.{accepted, refused, Verdict, pass, refuse_when
 use Rattle.tp_machine.specs.declared.TpRange.{TpRange}
 use Rattle.tp_machine.specs.declared.TpEnd.{TpEnd}
 use Rattle.tp_machine.specs.declared.TpEnd.the-variants.{Unknown, Known}
-use Rattle.tp_machine.specs.Segments.{isSegment, offset, more, size, endOf, written}
-use Rattle.tp_machine.specs.Ranges.{any, joined, someTouch}
+use Rattle.tp_machine.specs.Segments.{is-segment, offset, more, size, end-of, written}
+use Rattle.tp_machine.specs.Ranges.{any, joined, some-touch}
 
 -- how many ranges are held at most, and the highest payload limit
 abbrev pub most : ℕ
@@ -32,25 +32,25 @@ fresh limit = record { limit = limit; ranges = []; end = Unknown }
 -- ---- 38: the states that are malformed
 
 -- a range that ends before its start or past the limit
-unfoldable pub badRange : State → TpRange → Bool
-badRange p r = ltb (r .end) (r .start) || ltb (p .limit) (r .end)
+unfoldable pub bad-range : State → TpRange → Bool
+bad-range p r = ltb (r .end) (r .start) || ltb (p .limit) (r .end)
 
 -- a known end past x
-abbrev pub endPast : TpEnd → ℕ → Bool
-endPast Unknown x = false
-endPast (Known e) x = ltb x e
+abbrev pub end-past : TpEnd → ℕ → Bool
+end-past Unknown x = false
+end-past (Known e) x = ltb x e
 
 -- more than `most` ranges, a limit above the highest, an end past the limit, a bad range, or two that touch
-unfoldable pub badState : State → Bool
-badState p = ltb most (length (p .ranges)) || (ltb highest (p .limit) || (endPast (p .end) (p .limit) || (any (badRange p) (p .ranges) || someTouch (p .ranges))))
+unfoldable pub bad-state : State → Bool
+bad-state p = ltb most (length (p .ranges)) || (ltb highest (p .limit) || (end-past (p .end) (p .limit) || (any (bad-range p) (p .ranges) || some-touch (p .ranges))))
 
 -- ---- 31 to 35: what is wrong with a segment, in a state and a buffer of `room` bytes
 
-abbrev pub tooBig : State → List ℕ → Bool
-tooBig p seg = ltb (p .limit) (endOf seg)
+abbrev pub too-big : State → List ℕ → Bool
+too-big p seg = ltb (p .limit) (end-of seg)
 
-abbrev pub notAligned : List ℕ → Bool
-notAligned seg = more seg && not (eqb (size seg % 16) 0)
+abbrev pub not-aligned : List ℕ → Bool
+not-aligned seg = more seg && not (eqb (size seg % 16) 0)
 
 -- an end is known, and the new end x is past it, or this is a final segment with another end (as the Rust: an end below data that is held is
 -- not looked at; DIFFERENCES, R6)
@@ -62,31 +62,31 @@ abbrev pub previous : TpEnd → ℕ
 previous Unknown = 0
 previous (Known e) = e
 
-abbrev pub tooShort : List ℕ → ℕ → Bool
-tooShort seg room = ltb room (16 + endOf seg)
+abbrev pub too-short : List ℕ → ℕ → Bool
+too-short seg room = ltb room (16 + end-of seg)
 
 -- the state after a segment was accepted: its range joined, and a final segment sets the end
 abbrev pub taken : State → List ℕ → State
 taken p seg = record {
   limit = p .limit;
-  ranges = joined (record { start = offset seg; end = endOf seg }) (p .ranges);
-  end = cond (more seg) (p .end) (Known (endOf seg));
+  ranges = joined (record { start = offset seg; end = end-of seg }) (p .ranges);
+  end = cond (more seg) (p .end) (Known (end-of seg));
 }
 
 -- more ranges than may be held, after joining
-abbrev pub tooMany : State → List ℕ → Bool
-tooMany p seg = ltb most (length (taken p seg .ranges))
+abbrev pub too-many : State → List ℕ → Bool
+too-many p seg = ltb most (length (taken p seg .ranges))
 
 -- the first refusal of a segment
 unfoldable pub judged : State → List ℕ → ℕ → Verdict
 judged p seg room =
-    refuse malformed-state when badState p else
-    refuse not-a-segment when not (isSegment seg) else
-    refuse segment-too-big (offset seg) (size seg) (p .limit) when tooBig p seg else
-    refuse unaligned (offset seg) (size seg) when notAligned seg else
-    refuse conflicting-end (previous (p .end)) (endOf seg) when conflicts (p .end) (more seg) (endOf seg) else
-    refuse buffer-too-short (16 + endOf seg) when tooShort seg room else
-    refuse ranges-full when tooMany p seg else
+    refuse malformed-state when bad-state p else
+    refuse not-a-segment when not (is-segment seg) else
+    refuse segment-too-big (offset seg) (size seg) (p .limit) when too-big p seg else
+    refuse unaligned (offset seg) (size seg) when not-aligned seg else
+    refuse conflicting-end (previous (p .end)) (end-of seg) when conflicts (p .end) (more seg) (end-of seg) else
+    refuse buffer-too-short (16 + end-of seg) when too-short seg room else
+    refuse ranges-full when too-many p seg else
     pass
 
 -- ---- the calls

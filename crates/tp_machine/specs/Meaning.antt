@@ -42,8 +42,8 @@ pub record HeaderOf (s h : List ℕ) : Type 0 where
 abbrev pub range : (start end : ℕ) → TpRange
 range start end = record { start = start; end = end }
 
-abbrev pub rangeOf : List ℕ → TpRange
-rangeOf s = range (offset s) (offset s + size s)
+abbrev pub range-of : List ℕ → TpRange
+range-of s = range (offset s) (offset s + size s)
 
 -- ---- not 38
 
@@ -83,7 +83,7 @@ pub record Accepted (p : State) (seg : List ℕ) (room : ℕ) : Type 0 where
   pub aligned : more seg ≡ true → size seg % 16 ≡ 0
   pub agrees : Agrees (p .end) (more seg) (offset seg + size seg)
   pub fits : 16 + (offset seg + size seg) ≤ room
-  pub few : length (joined (rangeOf seg) (p .ranges)) ≤ most
+  pub few : length (joined (range-of seg) (p .ranges)) ≤ most
 
 -- ---- not 37
 pub record Complete (p : State) : Type 0 where

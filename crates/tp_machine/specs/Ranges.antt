@@ -15,8 +15,8 @@ unfoldable pub touch : TpRange → TpRange → Bool
 touch a b = leb (a .start) (b .end) && leb (b .start) (a .end)
 
 -- the least range that holds both
-unfoldable pub hullOf : TpRange → TpRange → TpRange
-hullOf a b = record { start = min (a .start) (b .start); end = max (a .end) (b .end) }
+unfoldable pub hull-of : TpRange → TpRange → TpRange
+hull-of a b = record { start = min (a .start) (b .start); end = max (a .end) (b .end) }
 
 -- r in front of rs where the test fails
 abbrev pub unless : Bool → TpRange → List TpRange → List TpRange
@@ -29,20 +29,20 @@ keep n [] = []
 keep n (r ∷ rs) = unless (touch n r) r (keep n rs)
 
 -- g grown by r where the test passes
-abbrev pub growIf : Bool → TpRange → TpRange → TpRange
-growIf true g r = hullOf g r
-growIf false g r = g
+abbrev pub grow-if : Bool → TpRange → TpRange → TpRange
+grow-if true g r = hull-of g r
+grow-if false g r = g
 
 -- g grown by each of those that n touches
 unfoldable pub grow : TpRange → TpRange → List TpRange → TpRange
 grow n g [] = g
-grow n g (r ∷ rs) = grow n (growIf (touch n r) g r) rs
+grow n g (r ∷ rs) = grow n (grow-if (touch n r) g r) rs
 
 -- the ranges after n has come: those that it does not touch, and it with those that it touches as one
 unfoldable pub joined : TpRange → List TpRange → List TpRange
 joined n rs = keep n rs ++ (grow n n rs ∷ [])
 
 -- two of a list touch
-unfoldable pub someTouch : List TpRange → Bool
-someTouch [] = false
-someTouch (r ∷ rs) = any (touch r) rs || someTouch rs
+unfoldable pub some-touch : List TpRange → Bool
+some-touch [] = false
+some-touch (r ∷ rs) = any (touch r) rs || some-touch rs

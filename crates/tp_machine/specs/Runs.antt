@@ -12,10 +12,10 @@ use Rattle.tp_machine.specs.declared.TpRange.{TpRange}
 use Rattle.tp_machine.specs.declared.TpEnd.{TpEnd}
 use Rattle.tp_machine.specs.declared.TpEnd.the-variants.{Unknown, Known}
 use Rattle.tp_machine.specs.Lists.{OneOf, Rearranged, Latest}
-use Rattle.tp_machine.specs.Segments.{offset, more, endOf, payload, header, pasted}
+use Rattle.tp_machine.specs.Segments.{offset, more, end-of, payload, header, pasted}
 use Rattle.tp_machine.specs.Ranges.{any}
 use Rattle.tp_machine.specs.Machine.{State, Out, step, begin, clear}
-use Rattle.tp_machine.specs.Meaning.{rangeOf}
+use Rattle.tp_machine.specs.Meaning.{range-of}
 
 -- the states that runs come to: a stream is begun, segments come over whatever buffer, it is cleared (taking leaves the state as it was)
 pub data Reached : State → Type 0 where
@@ -24,13 +24,13 @@ pub data Reached : State → Type 0 where
   clears : {p : State} → Reached p → Reached (clear p)
 
 -- those of the segments that are accepted, in the order in which they come
-abbrev pub ifAccepted : Verdict → List ℕ → List (List ℕ) → List (List ℕ)
-ifAccepted (accepted u) s ss = s ∷ ss
-ifAccepted (refused r) s ss = ss
+abbrev pub if-accepted : Verdict → List ℕ → List (List ℕ) → List (List ℕ)
+if-accepted (accepted u) s ss = s ∷ ss
+if-accepted (refused r) s ss = ss
 
 unfoldable pub admitted : Out → List (List ℕ) → List (List ℕ)
 admitted o [] = []
-admitted o (s ∷ ss) = ifAccepted (step (o .state) s (o .buffer) .answer) s (admitted (step (o .state) s (o .buffer)) ss)
+admitted o (s ∷ ss) = if-accepted (step (o .state) s (o .buffer) .answer) s (admitted (step (o .state) s (o .buffer)) ss)
 
 -- ---- places of the payload
 
@@ -44,7 +44,7 @@ covered rs x = any (holds x) rs
 
 -- the segment covers x, and the byte that it brings there
 abbrev pub spans : ℕ → List ℕ → Bool
-spans x s = holds x (rangeOf s)
+spans x s = holds x (range-of s)
 
 abbrev pub brought : ℕ → List ℕ → ℕ
 brought x s = getD (payload s) (x - offset s) 0
@@ -66,18 +66,18 @@ pub record Has (place : List ℕ → ℕ) (segs : List (List ℕ)) (x : ℕ) : T
 
 pub record Made (segs : List (List ℕ)) (r : TpRange) : Type 0 where
   pub begins-at : Has offset segs (r .start)
-  pub ends-at : Has endOf segs (r .end)
+  pub ends-at : Has end-of segs (r .end)
 
 -- a segment that lies in one of the ranges
 unfoldable pub around : List ℕ → TpRange → Bool
-around s r = leb (r .start) (offset s) && leb (endOf s) (r .end)
+around s r = leb (r .start) (offset s) && leb (end-of s) (r .end)
 
 abbrev pub Lies : List TpRange → List ℕ → Type 0
 Lies rs s = any (around s) rs ≡ true
 
 -- the end that is known
 pub record Ended (segs : List (List ℕ)) (e : TpEnd) : Type 0 where
-  pub by : (s : List ℕ) → Latest final segs s → e ≡ Known (endOf s)
+  pub by : (s : List ℕ) → Latest final segs s → e ≡ Known (end-of s)
   pub by-none : any final segs ≡ false → e ≡ Unknown
 
 -- the buffer c: each place of the payload and of the header

@@ -8,12 +8,12 @@ use lib.Dec.{ltb, eqb}
 use Rattle.numbers.specs.Bytes.{at32}
 
 -- the message types that have the TP bit
-unfoldable pub tpType : ℕ → Bool
-tpType t = eqb t 0x20 || (eqb t 0x21 || (eqb t 0x22 || (eqb t 0xa0 || eqb t 0xa1)))
+unfoldable pub tp-type : ℕ → Bool
+tp-type t = eqb t 0x20 || (eqb t 0x21 || (eqb t 0x22 || (eqb t 0xa0 || eqb t 0xa1)))
 
 -- not 30: at least 20 bytes, the length field is the byte count less 8, protocol version 1, a type with the TP bit
-unfoldable pub isSegment : List ℕ → Bool
-isSegment s = not (ltb (length s) 20) && (eqb (at32 s 4) (length s - 8) && (eqb (getD s 12 0) 1 && tpType (getD s 14 0)))
+unfoldable pub is-segment : List ℕ → Bool
+is-segment s = not (ltb (length s) 20) && (eqb (at32 s 4) (length s - 8) && (eqb (getD s 12 0) 1 && tp-type (getD s 14 0)))
 
 -- the TP word without its low four bits
 unfoldable pub offset : List ℕ → ℕ
@@ -30,16 +30,16 @@ payload s = drop 20 s
 abbrev pub size : List ℕ → ℕ
 size s = length (payload s)
 
-abbrev pub endOf : List ℕ → ℕ
-endOf s = offset s + size s
+abbrev pub end-of : List ℕ → ℕ
+end-of s = offset s + size s
 
 -- a message type with 0x20 cleared
-unfoldable pub withoutTp : ℕ → ℕ
-withoutTp t = t - t / 32 % 2 * 32
+unfoldable pub without-tp : ℕ → ℕ
+without-tp t = t - t / 32 % 2 * 32
 
 -- the 16 header bytes, with 0x20 cleared in byte 14
 unfoldable pub header : List ℕ → List ℕ
-header s = set (take 16 s) 14 (withoutTp (getD s 14 0))
+header s = set (take 16 s) 14 (without-tp (getD s 14 0))
 
 -- d with the elements from `at` on replaced by those of s
 unfoldable pub pasted : List ℕ → ℕ → List ℕ → List ℕ

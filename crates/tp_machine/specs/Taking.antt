@@ -11,11 +11,11 @@ use Rattle.tp_machine.specs.declared.TpRange.{TpRange}
 use Rattle.tp_machine.specs.declared.TpEnd.{TpEnd}
 use Rattle.tp_machine.specs.declared.TpEnd.the-variants.{Unknown, Known}
 use Rattle.tp_machine.specs.Segments.{pasted}
-use Rattle.tp_machine.specs.Machine.{State, badState}
+use Rattle.tp_machine.specs.Machine.{State, bad-state}
 
-abbrev pub isKnown : TpEnd → Bool
-isKnown Unknown = false
-isKnown (Known e) = true
+abbrev pub is-known : TpEnd → Bool
+is-known Unknown = false
+is-known (Known e) = true
 
 -- exactly one range, beginning at 0
 abbrev pub whole : List TpRange → Bool
@@ -24,20 +24,20 @@ whole (r ∷ []) = eqb (r .start) 0
 whole (r ∷ x ∷ rs) = false
 
 unfoldable pub complete : State → Bool
-complete p = not (badState p) && (isKnown (p .end) && whole (p .ranges))
+complete p = not (bad-state p) && (is-known (p .end) && whole (p .ranges))
 
 -- the end of the one range
-abbrev pub endHeld : List TpRange → ℕ
-endHeld [] = 0
-endHeld (r ∷ rs) = r .end
+abbrev pub end-held : List TpRange → ℕ
+end-held [] = 0
+end-held (r ∷ rs) = r .end
 
 -- 38, 37, 34 for a buffer of `room` bytes, or the range's end
 unfoldable pub ready : State → ℕ → Answer ℕ
 ready p room =
-    refuse malformed-state when badState p else
+    refuse malformed-state when bad-state p else
     refuse not-complete when not (complete p) else
-    refuse buffer-too-short (16 + endHeld (p .ranges)) when ltb room (16 + endHeld (p .ranges)) else
-    accepted (endHeld (p .ranges))
+    refuse buffer-too-short (16 + end-held (p .ranges)) when ltb room (16 + end-held (p .ranges)) else
+    accepted (end-held (p .ranges))
 
 -- the buffer after taking: bytes 4 to 7 become the range's end plus 8
 abbrev pub finished : Answer ℕ → List ℕ → List ℕ

@@ -10,22 +10,22 @@ use Rattle.numbers.specs.Refusals.{Refusal}
 use Rattle.numbers.specs.Answers.{accepted, refused, pass, All}
 use Rattle.tp_machine.specs.declared.TpRange.{TpRange}
 use Rattle.tp_machine.specs.Lists.{Rearranged, Latest}
-use Rattle.tp_machine.specs.Segments.{isSegment, header, pasted, written}
+use Rattle.tp_machine.specs.Segments.{is-segment, header, pasted, written}
 use Rattle.tp_machine.specs.Ranges.{any, joined}
-use Rattle.tp_machine.specs.Machine.{State, Out, badState, taken, judged, step, begin, opened, fed, clear}
+use Rattle.tp_machine.specs.Machine.{State, Out, bad-state, taken, judged, step, begin, opened, fed, clear}
 use Rattle.tp_machine.specs.Taking.{complete, taking}
 use Rattle.tp_machine.specs.Meaning.{Segment, HeaderOf, range, Good, Accepted, Complete}
 use Rattle.tp_machine.specs.Runs.{Reached, admitted, holds, covered, spans, brought, Made, Lies, Ended, Filled, Reported, SameSet, Same, Alike}
 
 -- ---- the tests mean what document 01 says, both ways
 abbrev pub SegmentMeans : Type 0
-SegmentMeans = (s : List ℕ) → (isSegment s ≡ true) ↔ Segment s
+SegmentMeans = (s : List ℕ) → (is-segment s ≡ true) ↔ Segment s
 
 abbrev pub HeaderMeans : Type 0
 HeaderMeans = (s : List ℕ) → 20 ≤ length s → HeaderOf s (header s)
 
 abbrev pub GoodMeans : Type 0
-GoodMeans = (p : State) → (badState p ≡ false) ↔ Good p
+GoodMeans = (p : State) → (bad-state p ≡ false) ↔ Good p
 
 abbrev pub AcceptedMeans : Type 0
 AcceptedMeans = (p : State) (seg : List ℕ) (room : ℕ) → (judged p seg room ≡ pass) ↔ Accepted p seg room
@@ -95,7 +95,7 @@ SetIsOrder = (p q : State) → Good p → Good q → SameSet (p .ranges) (q .ran
 
 -- no call sees it, in any state
 pub record Unseen (p q : State) : Type 0 where
-  pub malformed : badState p ≡ badState q
+  pub malformed : bad-state p ≡ bad-state q
   pub step-alike : (seg buf : List ℕ) → Alike (step p seg buf) (step q seg buf)
   pub complete-alike : complete p ≡ complete q
   pub taking-alike : (buf : List ℕ) → taking p buf ≡ taking q buf

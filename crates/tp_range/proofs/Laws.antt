@@ -11,9 +11,9 @@ use lib.ListN.{length, take, drop, getD, set, length-append, length-take, length
 use lib.Dec.{ltb, leb}
 use lib.Seq.{take-suc, drop-cons, slice-cons, take-all, set-append-seam}
 use Rattle.tp_machine.specs.declared.TpRange.{TpRange}
-use Rattle.tp_machine.specs.Ranges.{any, touch, hullOf, unless, keep, growIf, grow, joined, someTouch}
+use Rattle.tp_machine.specs.Ranges.{any, touch, hull-of, unless, keep, grow-if, grow, joined, some-touch}
 use Rattle.tp_machine.specs.Machine.{most}
-use Rattle.tp_range.specs.Joining.{placed, fitted, joinedIn}
+use Rattle.tp_range.specs.Joining.{placed, fitted, joined-in}
 
 -- what a read past the end would give
 abbrev pub none : TpRange
@@ -33,10 +33,10 @@ unfolding keep
 keep-snoc n [] r = refl
 keep-snoc n (x ∷ xs) r = ap (unless (touch n x) x) (keep-snoc n xs r) ∙ sym (unless-append (touch n x) x (keep n xs) (unless (touch n r) r []))
 
-grow-snoc : (n g : TpRange) (xs : List TpRange) (r : TpRange) → grow n g (xs ++ (r ∷ [])) ≡ growIf (touch n r) (grow n g xs) r
+grow-snoc : (n g : TpRange) (xs : List TpRange) (r : TpRange) → grow n g (xs ++ (r ∷ [])) ≡ grow-if (touch n r) (grow n g xs) r
 unfolding grow
 grow-snoc n g [] r = refl
-grow-snoc n g (x ∷ xs) r = grow-snoc n (growIf (touch n x) g x) xs r
+grow-snoc n g (x ∷ xs) r = grow-snoc n (grow-if (touch n x) g x) xs r
 
 unless-length : (b : Bool) (r : TpRange) (xs : List TpRange) (k : ℕ) → length xs ≤ k → length (unless b r xs) ≤ suc k
 unless-length true r xs k h = omega arith
@@ -62,7 +62,7 @@ module _ (n : TpRange) (rs : List TpRange) (i : ℕ) (d : TpRange) (h : i < leng
   pub keep-apart : touch n (getD rs i d) ≡ false → keep n (take (i + 1) rs) ≡ keep n (take i rs) ++ (getD rs i d ∷ [])
   keep-apart e = rw (one-more, keep-snoc, e)
 
-  pub grow-touched : (g : TpRange) → touch n (getD rs i d) ≡ true → grow n g (take (i + 1) rs) ≡ hullOf (grow n g (take i rs)) (getD rs i d)
+  pub grow-touched : (g : TpRange) → touch n (getD rs i d) ≡ true → grow n g (take (i + 1) rs) ≡ hull-of (grow n g (take i rs)) (getD rs i d)
   grow-touched g e = rw (one-more, grow-snoc, e)
 
   pub grow-apart : (g : TpRange) → touch n (getD rs i d) ≡ false → grow n g (take (i + 1) rs) ≡ grow n g (take i rs)
@@ -119,14 +119,14 @@ module _ (array : List TpRange) (count : ℕ) (long : length array ≡ most) whe
     all-count : length (keeps ++ (grows ∷ [])) ≡ length keeps + 1
     all-count = length-append keeps (grows ∷ [])
 
-    pub joined-room : length keeps < most → record { full = false; ranges = set (over keeps array) (length keeps) grows; count = length keeps + 1 } ≡ joinedIn array count new
-    unfolding joinedIn
+    pub joined-room : length keeps < most → record { full = false; ranges = set (over keeps array) (length keeps) grows; count = length keeps + 1 } ≡ joined-in array count new
+    unfolding joined-in
     joined-room h =
         (λ i. record { full = false; ranges = over-snoc keeps array grows (omega arith) i; count = sym all-count i })
         ∙ fitted-in (keeps ++ (grows ∷ [])) (omega (arith, all-count)) ∙ ap (fitted array count) all-joined
 
-    pub joined-full : most ≤ length keeps → record { full = true; ranges = array; count = count } ≡ joinedIn array count new
-    unfolding joinedIn
+    pub joined-full : most ≤ length keeps → record { full = true; ranges = array; count = count } ≡ joined-in array count new
+    unfolding joined-in
     joined-full h = fitted-out (keeps ++ (grows ∷ [])) (omega (arith, all-count)) ∙ ap (fitted array count) all-joined
 
 -- what joining gives, by whether there is a place
@@ -154,12 +154,12 @@ module _ (rs : List TpRange) (i n : ℕ) (d : TpRange) (h : i < n) (k : n ≤ le
   unfolding any
   any-miss f e = rw (front, e)
 
-  pub touch-hit : any (touch (getD rs i d)) (drop (i + 1) (take n rs)) ≡ true → someTouch (drop i (take n rs)) ≡ true
-  unfolding someTouch
+  pub touch-hit : any (touch (getD rs i d)) (drop (i + 1) (take n rs)) ≡ true → some-touch (drop i (take n rs)) ≡ true
+  unfolding some-touch
   touch-hit e = rw (front, e)
 
-  pub touch-miss : any (touch (getD rs i d)) (drop (i + 1) (take n rs)) ≡ false → someTouch (drop (i + 1) (take n rs)) ≡ someTouch (drop i (take n rs))
-  unfolding someTouch
+  pub touch-miss : any (touch (getD rs i d)) (drop (i + 1) (take n rs)) ≡ false → some-touch (drop (i + 1) (take n rs)) ≡ some-touch (drop i (take n rs))
+  unfolding some-touch
   touch-miss e = rw (front, e)
 
 past-end : (rs : List TpRange) (i n : ℕ) → n ≤ i → drop i (take n rs) ≡ []
@@ -171,6 +171,6 @@ pub any-end : (f : TpRange → Bool) (rs : List TpRange) (i n : ℕ) → n ≤ i
 unfolding any
 any-end f rs i n h = rw (past-end rs i n h)
 
-pub touch-end : (rs : List TpRange) (i n : ℕ) → n ≤ i → someTouch (drop i (take n rs)) ≡ false
-unfolding someTouch
+pub touch-end : (rs : List TpRange) (i n : ℕ) → n ≤ i → some-touch (drop i (take n rs)) ≡ false
+unfolding some-touch
 touch-end rs i n h = rw (past-end rs i n h)

@@ -18,5 +18,5 @@ abbrev pub fitted : List TpRange → ℕ → List TpRange → Joined
 fitted array count rs = cond (ltb most (length rs)) (record { full = true; ranges = array; count = count }) (record { full = false; ranges = placed array rs; count = length rs })
 
 -- `new` joined to the first `count` of the array
-unfoldable pub joinedIn : List TpRange → ℕ → TpRange → Joined
-joinedIn array count new = fitted array count (joined new (take count array))
+unfoldable pub joined-in : List TpRange → ℕ → TpRange → Joined
+joined-in array count new = fitted array count (joined new (take count array))

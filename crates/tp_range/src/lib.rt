@@ -3,9 +3,9 @@
 ghost use mathlib.Core.Path.{_≡_};
 ghost use Prim.Native.Nat.{min, max};
 ghost use lib.ListN.{take};
-ghost use Rattle.tp_machine.specs.Ranges.{touch, hullOf, someTouch};
+ghost use Rattle.tp_machine.specs.Ranges.{touch, hull-of, some-touch};
 ghost use Rattle.tp_machine.specs.Machine.{most};
-ghost use Rattle.tp_range.specs.Joining.{joinedIn};
+ghost use Rattle.tp_range.specs.Joining.{joined-in};
 use tp_machine::TpRange;
 
 // How many ranges are held at most.
@@ -41,7 +41,7 @@ fn greatest(x: u32, y: u32) -> u32
 
 // The least range that holds both.
 pub fn hull(a: TpRange, b: TpRange) -> TpRange
-    ensures { λ r. ⌜ r ≡ hullOf a b ⌝ }
+    ensures { λ r. ⌜ r ≡ hull-of a b ⌝ }
 {
     TpRange {
         start: least(a.start, b.start),
@@ -63,7 +63,7 @@ fn places(count: usize) -> usize
 // The joining step: the ranges that `new` does not touch, in their order, and then `new` grown by those that it touches.
 // The places behind them stay as they were.
 pub fn join(ranges: [TpRange; MAX_RANGES], count: usize, new: TpRange) -> Joined
-    ensures { λ r. ⌜ r ≡ joinedIn ranges count new ⌝ }
+    ensures { λ r. ⌜ r ≡ joined-in ranges count new ⌝ }
 {
     let held = places(count);
     let mut out = ranges;
@@ -97,7 +97,7 @@ pub fn join(ranges: [TpRange; MAX_RANGES], count: usize, new: TpRange) -> Joined
 
 // Whether two of the first `count` touch: each is tried with those behind it.
 pub fn some_touch(ranges: [TpRange; MAX_RANGES], count: usize) -> bool
-    ensures { λ b. ⌜ b ≡ someTouch (take count ranges) ⌝ }
+    ensures { λ b. ⌜ b ≡ some-touch (take count ranges) ⌝ }
 {
     let held = places(count);
     let mut i: usize = 0;

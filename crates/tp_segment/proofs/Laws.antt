@@ -11,35 +11,35 @@ use Rattle.numbers.specs.Bytes.{at32}
 use Rattle.numbers.specs.Refusals.{not-a-segment}
 use Rattle.numbers.specs.Answers.{accepted, refuse_when_else_}
 use Rattle.numbers.proofs.AnswerLaws.{when-hit, when-pass, test-accepted, accepted-inj, not-refused}
-use Rattle.tp_machine.specs.Segments.{isSegment, tpType, offset, more, payload, size}
+use Rattle.tp_machine.specs.Segments.{is-segment, tp-type, offset, more, payload, size}
 use Rattle.tp_segment.specs.declared.TpHeader.{TpHeader}
 use Rattle.tp_segment.specs.declared.TpSegment.{TpSegment}
 use Rattle.tp_segment.specs.declared.TpSegment.the-variants.{Good, NotASegment}
-use Rattle.tp_segment.specs.Reading.{headerOf, reading, told}
+use Rattle.tp_segment.specs.Reading.{header-of, reading, told}
 
 -- the tests in their order
 module _ (s : List ℕ) where
-  pub is-short : length s < 20 → isSegment s ≡ false
-  unfolding isSegment
+  pub is-short : length s < 20 → is-segment s ≡ false
+  unfolding is-segment
   is-short h = rw (lt-ltb (length s) 20 h)
 
   module _ (h : 20 ≤ length s) where
-    pub is-length : (at32 s 4 ≡ length s - 8 → ⊥) → isSegment s ≡ false
-    unfolding isSegment
+    pub is-length : (at32 s 4 ≡ length s - 8 → ⊥) → is-segment s ≡ false
+    unfolding is-segment
     is-length e = rw (le-ltb (length s) 20 h, ne-eqb (at32 s 4) (length s - 8) e)
 
     module _ (e : at32 s 4 ≡ length s - 8) where
-      pub is-version : (getD s 12 0 ≡ 1 → ⊥) → isSegment s ≡ false
-      unfolding isSegment
+      pub is-version : (getD s 12 0 ≡ 1 → ⊥) → is-segment s ≡ false
+      unfolding is-segment
       is-version v = rw (le-ltb (length s) 20 h, eq-eqb (at32 s 4) (length s - 8) e, ne-eqb (getD s 12 0) 1 v)
 
-      pub is-type : getD s 12 0 ≡ 1 → isSegment s ≡ tpType (getD s 14 0)
-      unfolding isSegment
+      pub is-type : getD s 12 0 ≡ 1 → is-segment s ≡ tp-type (getD s 14 0)
+      unfolding is-segment
       is-type v = rw (le-ltb (length s) 20 h, eq-eqb (at32 s 4) (length s - 8) e, eq-eqb (getD s 12 0) 1 v)
 
 -- the message types by ranges, as a `match` tests them
-pub tp-first : (t : ℕ) → 0x20 ≤ t → t ≤ 0x22 → tpType t ≡ true
-unfolding tpType
+pub tp-first : (t : ℕ) → 0x20 ≤ t → t ≤ 0x22 → tp-type t ≡ true
+unfolding tp-type
 tp-first t h k = go (eqb t 0x20) (eqb t 0x21) refl refl
   where
     go : (a b : Bool) → eqb t 0x20 ≡ a → eqb t 0x21 ≡ b → (a || (b || (eqb t 0x22 || (eqb t 0xa0 || eqb t 0xa1)))) ≡ true
@@ -47,8 +47,8 @@ tp-first t h k = go (eqb t 0x20) (eqb t 0x21) refl refl
     go false true e f = refl
     go false false e f = rw (eq-eqb t 0x22 (omega (arith, eqb-false t 0x20 e, eqb-false t 0x21 f)))
 
-pub tp-second : (t : ℕ) → 0xa0 ≤ t → t ≤ 0xa1 → tpType t ≡ true
-unfolding tpType
+pub tp-second : (t : ℕ) → 0xa0 ≤ t → t ≤ 0xa1 → tp-type t ≡ true
+unfolding tp-type
 tp-second t h k =
     let a : eqb t 0x20 ≡ false = ne-eqb t 0x20 (λ e. omega arith) in
     let b : eqb t 0x21 ≡ false = ne-eqb t 0x21 (λ e. omega arith) in
@@ -59,8 +59,8 @@ tp-second t h k =
     go true e = refl
     go false e = eq-eqb t 0xa1 (omega (arith, eqb-false t 0xa0 e))
 
-pub tp-none : (t : ℕ) → (t ≡ 0x20 → ⊥) → (t ≡ 0x21 → ⊥) → (t ≡ 0x22 → ⊥) → (t ≡ 0xa0 → ⊥) → (t ≡ 0xa1 → ⊥) → tpType t ≡ false
-unfolding tpType
+pub tp-none : (t : ℕ) → (t ≡ 0x20 → ⊥) → (t ≡ 0x21 → ⊥) → (t ≡ 0x22 → ⊥) → (t ≡ 0xa0 → ⊥) → (t ≡ 0xa1 → ⊥) → tp-type t ≡ false
+unfolding tp-type
 tp-none t a b c d e = rw (ne-eqb t 0x20 a, ne-eqb t 0x21 b, ne-eqb t 0x22 c, ne-eqb t 0xa0 d, ne-eqb t 0xa1 e)
 
 and-first : (a b : Bool) → (a && b) ≡ true → a ≡ true
@@ -68,33 +68,33 @@ and-first true b e = refl
 and-first false b e = e
 
 -- a segment has its 20 bytes
-pub is-long : (s : List ℕ) → isSegment s ≡ true → 20 ≤ length s
-unfolding isSegment
+pub is-long : (s : List ℕ) → is-segment s ≡ true → 20 ≤ length s
+unfolding is-segment
 is-long s e = ltb-false (length s) 20 (not-true (ltb (length s) 20) (and-first (not (ltb (length s) 20)) _ e))
 
 -- the two answers of reading
-pub reads-not : (s : List ℕ) → isSegment s ≡ false → told NotASegment ≡ reading s
+pub reads-not : (s : List ℕ) → is-segment s ≡ false → told NotASegment ≡ reading s
 unfolding reading
 reads-not s e = rw (e, when-hit)
 
-pub reads-good : (s : List ℕ) (w : ℕ) → isSegment s ≡ true → w ≡ at32 s 16 → told (Good (record { offset = w - w % 16; more = eqb (w % 2) 1; size = length s - 20 })) ≡ reading s
+pub reads-good : (s : List ℕ) (w : ℕ) → is-segment s ≡ true → w ≡ at32 s 16 → told (Good (record { offset = w - w % 16; more = eqb (w % 2) 1; size = length s - 20 })) ≡ reading s
 unfolding reading offset more payload
 reads-good s w e h = rw (e, when-pass) (λ i. accepted (record { offset = h i - h i % 16; more = eqb (h i % 2) 1; size = sym (length-drop 20 s) i }))
 
 -- what an answer of reading tells
-pub reading-not : (s : List ℕ) → told NotASegment ≡ reading s → isSegment s ≡ false
+pub reading-not : (s : List ℕ) → told NotASegment ≡ reading s → is-segment s ≡ false
 unfolding reading refuse_when_else_
-reading-not s e = go (isSegment s) refl e
+reading-not s e = go (is-segment s) refl e
   where
-    go : (b : Bool) → isSegment s ≡ b → told NotASegment ≡ (refuse not-a-segment when not b else accepted (headerOf s)) → isSegment s ≡ false
-    go true i q = not-refused not-a-segment (headerOf s) q
+    go : (b : Bool) → is-segment s ≡ b → told NotASegment ≡ (refuse not-a-segment when not b else accepted (header-of s)) → is-segment s ≡ false
+    go true i q = not-refused not-a-segment (header-of s) q
     go false i q = i
 
-pub reading-good : (s : List ℕ) (h : TpHeader) → told (Good h) ≡ reading s → (isSegment s ≡ true) × (h ≡ headerOf s)
+pub reading-good : (s : List ℕ) (h : TpHeader) → told (Good h) ≡ reading s → (is-segment s ≡ true) × (h ≡ header-of s)
 unfolding reading
 reading-good s h e =
-    let a = test-accepted not-a-segment (isSegment s) (accepted (headerOf s)) h .0 (sym e) in
-    (a .0, sym (accepted-inj (headerOf s) h (a .1)))
+    let a = test-accepted not-a-segment (is-segment s) (accepted (header-of s)) h .0 (sym e) in
+    (a .0, sym (accepted-inj (header-of s) h (a .1)))
 
 -- an answer is pinned by what it says
 pub told-one : (a b : TpSegment) → told a ≡ told b → a ≡ b
@@ -104,10 +104,10 @@ told-one NotASegment (Good k) e = let z : _≡_ {A = ℕ} 0 1 = cc in absurd (om
 told-one NotASegment NotASegment e = refl
 
 -- any two outcomes that a promise allows are equal
-pub tp-type-unique : (t : ℕ) (r q : Bool) → r ≡ tpType t → q ≡ tpType t → r ≡ q
+pub tp-type-unique : (t : ℕ) (r q : Bool) → r ≡ tp-type t → q ≡ tp-type t → r ≡ q
 tp-type-unique t r q e f = e ∙ sym f
 
-pub is-segment-unique : (s : List ℕ) (r q : Bool) → r ≡ isSegment s → q ≡ isSegment s → r ≡ q
+pub is-segment-unique : (s : List ℕ) (r q : Bool) → r ≡ is-segment s → q ≡ is-segment s → r ≡ q
 is-segment-unique s r q e f = e ∙ sym f
 
 pub read-unique : (s : List ℕ) (r q : TpSegment) → told r ≡ reading s → told q ≡ reading s → r ≡ q

@@ -1,7 +1,7 @@
 // One segment: whether bytes are one (answer 30), and what its header says. (tp_header.rs)
 use big_endian::be32;
 ghost use mathlib.Core.Path.{_≡_};
-ghost use Rattle.tp_machine.specs.Segments.{tpType, isSegment};
+ghost use Rattle.tp_machine.specs.Segments.{tp-type, is-segment};
 ghost use Rattle.tp_segment.specs.Reading.{told, reading};
 
 // Where a segment's payload goes, whether more follows, and how long the payload is.
@@ -19,7 +19,7 @@ pub enum TpSegment {
 
 // Whether a message type has the TP bit.
 pub fn tp_type(t: u8) -> bool
-    ensures { λ r. ⌜ r ≡ tpType t ⌝ }
+    ensures { λ r. ⌜ r ≡ tp-type t ⌝ }
 {
     match t {
         0x20 | 0x21 | 0x22 | 0xa0 | 0xa1 => true,
@@ -29,7 +29,7 @@ pub fn tp_type(t: u8) -> bool
 
 // Whether bytes are a segment: the contrary of answer 30.
 pub fn is_segment(s: &[u8]) -> bool
-    ensures { λ r. ⌜ r ≡ isSegment (now (s .entry)) ⌝ }
+    ensures { λ r. ⌜ r ≡ is-segment (now (s .entry)) ⌝ }
 {
     if s.len() < 20 {
         return false;

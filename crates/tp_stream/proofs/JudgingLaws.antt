@@ -10,10 +10,10 @@ use Rattle.numbers.specs.Refusals.{not-a-segment, segment-too-big, unaligned, c
 use Rattle.numbers.specs.Answers.{refused, refuse_when_else_}
 use Rattle.tp_machine.specs.declared.TpEnd.{TpEnd}
 use Rattle.tp_machine.specs.declared.TpEnd.the-variants.{Known}
-use Rattle.tp_machine.specs.Segments.{isSegment, endOf}
-use Rattle.tp_machine.specs.Machine.{State, badState, conflicts, previous, judged}
+use Rattle.tp_machine.specs.Segments.{is-segment, end-of}
+use Rattle.tp_machine.specs.Machine.{State, bad-state, conflicts, previous, judged}
 use Rattle.tp_segment.specs.declared.TpHeader.{TpHeader}
-use Rattle.tp_segment.specs.Reading.{headerOf}
+use Rattle.tp_segment.specs.Reading.{header-of}
 use Rattle.tp_segment.proofs.Laws.{is-long}
 use Rattle.tp_stream.specs.Promises.{Passed}
 use Rattle.tp_stream.proofs.MalformedLaws.{sound}
@@ -42,11 +42,11 @@ module _ (end : TpEnd) (e : ℕ) (more : Bool) (x : ℕ) (q : end ≡ Known e) w
 
 -- ---- the tests in their order
 module _ (p : State) (seg : List ℕ) (room : ℕ) where
-  pub judged-malformed : badState p ≡ true → judged p seg room ≡ refused malformed-state
+  pub judged-malformed : bad-state p ≡ true → judged p seg room ≡ refused malformed-state
   unfolding judged refuse_when_else_
   judged-malformed m = rw m
 
-  pub judged-not : badState p ≡ false → isSegment seg ≡ false → judged p seg room ≡ refused not-a-segment
+  pub judged-not : bad-state p ≡ false → is-segment seg ≡ false → judged p seg room ≡ refused not-a-segment
   unfolding judged refuse_when_else_
   judged-not m g = rw (m, g)
 
@@ -66,28 +66,28 @@ short-of room h = ltb room (16 + (h .offset + h .size))
 -- what each of them decides
 pub record Decides (p : State) (seg : List ℕ) (room : ℕ) (h : TpHeader) : Type 0 where
   pub big : past p h ≡ true → judged p seg room ≡ refused (segment-too-big (h .offset) (h .size) (p .limit))
-  pub not-aligned : past p h ≡ false → uneven h ≡ true → judged p seg room ≡ refused (unaligned (h .offset) (h .size))
+  pub unaligned-first : past p h ≡ false → uneven h ≡ true → judged p seg room ≡ refused (unaligned (h .offset) (h .size))
   pub conflict : past p h ≡ false → uneven h ≡ false → clash p h ≡ true → judged p seg room ≡ refused (conflicting-end (previous (p .end)) (h .offset + h .size))
   pub short : past p h ≡ false → uneven h ≡ false → clash p h ≡ false → short-of room h ≡ true → judged p seg room ≡ refused (buffer-too-short (16 + (h .offset + h .size)))
   pub passes : past p h ≡ false → uneven h ≡ false → clash p h ≡ false → short-of room h ≡ false → Passed p seg room h
 
-module _ (p : State) (seg : List ℕ) (room : ℕ) (m : badState p ≡ false) (g : isSegment seg ≡ true) where
-  of-header : Decides p seg room (headerOf seg)
+module _ (p : State) (seg : List ℕ) (room : ℕ) (m : bad-state p ≡ false) (g : is-segment seg ≡ true) where
+  of-header : Decides p seg room (header-of seg)
   unfolding judged refuse_when_else_
   of-header = record {
     big = λ a. rw (m, g, a);
-    not-aligned = λ a b. rw (m, g, a, b);
+    unaligned-first = λ a b. rw (m, g, a, b);
     conflict = λ a b c. rw (m, g, a, b, c);
     short = λ a b c d. rw (m, g, a, b, c, d);
     passes = λ a b c d. record {
       good = m;
       header = refl;
       long = is-long seg g;
-      low = omega (arith, ltb-false (p .limit) (endOf seg) a, sound p m .low);
-      fits = ltb-false room (16 + endOf seg) d;
+      low = omega (arith, ltb-false (p .limit) (end-of seg) a, sound p m .low);
+      fits = ltb-false room (16 + end-of seg) d;
       rest = rw (m, g, a, b, c, d);
     };
   }
 
-  pub decides : (h : TpHeader) → h ≡ headerOf seg → Decides p seg room h
+  pub decides : (h : TpHeader) → h ≡ header-of seg → Decides p seg room h
   decides h q = subst (Decides p seg room) (sym q) of-header

@@ -8,49 +8,49 @@ use borrow.Author.Tests.{lt-ltb, le-ltb, ltb-false}
 use lib.Dec.{ltb}
 use lib.ListN.{length, take}
 use Rattle.tp_machine.specs.declared.TpRange.{TpRange}
-use Rattle.tp_machine.specs.Ranges.{any, someTouch}
-use Rattle.tp_machine.specs.Machine.{most, highest, State, badRange, endPast, badState}
+use Rattle.tp_machine.specs.Ranges.{any, some-touch}
+use Rattle.tp_machine.specs.Machine.{most, highest, State, bad-range, end-past, bad-state}
 use Rattle.tp_stream.specs.declared.TpStream.{TpStream}
 use Rattle.tp_stream.specs.Stream.{held, view}
 use Rattle.tp_stream.proofs.StreamLaws.{held-length, held-take}
 
 -- ---- one range's faults, by the tests in their order
 module _ (p : State) (r : TpRange) where
-  pub bad-early : r .end < r .start → true ≡ badRange p r
-  unfolding badRange
+  pub bad-early : r .end < r .start → true ≡ bad-range p r
+  unfolding bad-range
   bad-early h = rw (lt-ltb (r .end) (r .start) h)
 
-  pub bad-late : (limit : ℕ) → p .limit ≡ limit → r .start ≤ r .end → ltb limit (r .end) ≡ badRange p r
-  unfolding badRange
+  pub bad-late : (limit : ℕ) → p .limit ≡ limit → r .start ≤ r .end → ltb limit (r .end) ≡ bad-range p r
+  unfolding bad-range
   bad-late limit e h = rw (le-ltb (r .end) (r .start) h) (ap (λ (n : ℕ). ltb n (r .end)) (sym e))
 
 -- ---- a stream's faults, by the tests in their order
 module _ (s : TpStream) where
-  pub too-many : most < s .count → true ≡ badState (view s)
-  unfolding badState
-  too-many h = rw (held-length, lt-ltb most (s .count) h)
+  pub more-than-most : most < s .count → true ≡ bad-state (view s)
+  unfolding bad-state
+  more-than-most h = rw (held-length, lt-ltb most (s .count) h)
 
   module _ (few : s .count ≤ most) where
-    pub too-high : highest < s .limit → true ≡ badState (view s)
-    unfolding badState
+    pub too-high : highest < s .limit → true ≡ bad-state (view s)
+    unfolding bad-state
     too-high h = rw (held-length, le-ltb most (s .count) few, lt-ltb highest (s .limit) h)
 
     module _ (low : s .limit ≤ highest) where
-      pub too-late : endPast (s .end) (s .limit) ≡ true → true ≡ badState (view s)
-      unfolding badState
+      pub too-late : end-past (s .end) (s .limit) ≡ true → true ≡ bad-state (view s)
+      unfolding bad-state
       too-late e = rw (held-length, le-ltb most (s .count) few, le-ltb highest (s .limit) low, e)
 
-      module _ (ends : endPast (s .end) (s .limit) ≡ false) (long : length (s .ranges) ≡ most) where
+      module _ (ends : end-past (s .end) (s .limit) ≡ false) (long : length (s .ranges) ≡ most) where
         the-ranges : held (s .count) (s .ranges) ≡ take (s .count) (s .ranges)
         the-ranges = held-take (s .count) (s .ranges) (omega arith)
 
-        pub one-bad : any (badRange (view s)) (take (s .count) (s .ranges)) ≡ true → true ≡ badState (view s)
-        unfolding badState
-        one-bad e = rw (held-length, le-ltb most (s .count) few, le-ltb highest (s .limit) low, ends, ap (any (badRange (view s))) the-ranges, e)
+        pub one-bad : any (bad-range (view s)) (take (s .count) (s .ranges)) ≡ true → true ≡ bad-state (view s)
+        unfolding bad-state
+        one-bad e = rw (held-length, le-ltb most (s .count) few, le-ltb highest (s .limit) low, ends, ap (any (bad-range (view s))) the-ranges, e)
 
-        pub two-touch : any (badRange (view s)) (take (s .count) (s .ranges)) ≡ false → someTouch (take (s .count) (s .ranges)) ≡ badState (view s)
-        unfolding badState
-        two-touch e = rw (held-length, le-ltb most (s .count) few, le-ltb highest (s .limit) low, ends, ap (any (badRange (view s))) the-ranges, e) (ap someTouch (sym the-ranges))
+        pub two-touch : any (bad-range (view s)) (take (s .count) (s .ranges)) ≡ false → some-touch (take (s .count) (s .ranges)) ≡ bad-state (view s)
+        unfolding bad-state
+        two-touch e = rw (held-length, le-ltb most (s .count) few, le-ltb highest (s .limit) low, ends, ap (any (bad-range (view s))) the-ranges, e) (ap some-touch (sym the-ranges))
 
 -- ---- what a state that is not malformed tells
 neither : (a b : Bool) → (a || b) ≡ false → (a ≡ false) × (b ≡ false)
@@ -60,21 +60,21 @@ neither false b e = (refl, e)
 pub record Sound (p : State) : Type 0 where
   pub few : length (p .ranges) ≤ most
   pub low : p .limit ≤ highest
-  pub each : any (badRange p) (p .ranges) ≡ false
+  pub each : any (bad-range p) (p .ranges) ≡ false
 
-pub sound : (p : State) → badState p ≡ false → Sound p
-unfolding badState
+pub sound : (p : State) → bad-state p ≡ false → Sound p
+unfolding bad-state
 sound p e =
     let a = neither (ltb most (length (p .ranges))) _ e in
     let b = neither (ltb highest (p .limit)) _ (a .1) in
-    let c = neither (endPast (p .end) (p .limit)) _ (b .1) in
-    let d = neither (any (badRange p) (p .ranges)) _ (c .1) in
+    let c = neither (end-past (p .end) (p .limit)) _ (b .1) in
+    let d = neither (any (bad-range p) (p .ranges)) _ (c .1) in
     record { few = ltb-false most (length (p .ranges)) (a .0); low = ltb-false highest (p .limit) (b .0); each = d .0 }
 
 -- the first range ends within the limit
-pub first-within : (p : State) (r : TpRange) (rs : List TpRange) → any (badRange p) (r ∷ rs) ≡ false → r .end ≤ p .limit
-unfolding any badRange
+pub first-within : (p : State) (r : TpRange) (rs : List TpRange) → any (bad-range p) (r ∷ rs) ≡ false → r .end ≤ p .limit
+unfolding any bad-range
 first-within p r rs e =
-    let a = neither (badRange p r) (any (badRange p) rs) e in
+    let a = neither (bad-range p r) (any (bad-range p) rs) e in
     let b = neither (ltb (r .end) (r .start)) (ltb (p .limit) (r .end)) (a .0) in
     ltb-false (p .limit) (r .end) (b .1)

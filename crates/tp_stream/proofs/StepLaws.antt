@@ -15,9 +15,9 @@ use Rattle.tp_machine.specs.declared.TpEnd.{TpEnd}
 use Rattle.tp_machine.specs.declared.TpEnd.the-variants.{Known}
 use Rattle.tp_machine.specs.Segments.{written}
 use Rattle.tp_machine.specs.Ranges.{joined}
-use Rattle.tp_machine.specs.Machine.{most, judged, taken, tooMany, after, step}
+use Rattle.tp_machine.specs.Machine.{most, judged, taken, too-many, after, step}
 use Rattle.tp_range.specs.declared.Joined.{Joined}
-use Rattle.tp_range.specs.Joining.{placed, joinedIn}
+use Rattle.tp_range.specs.Joining.{placed, joined-in}
 use Rattle.tp_range.proofs.Laws.{fitted-full, fitted-placed}
 use Rattle.tp_segment.specs.declared.TpHeader.{TpHeader}
 use Rattle.tp_stream.specs.declared.TpStream.{TpStream}
@@ -48,7 +48,7 @@ module _ (s : TpStream) (seg buf : List ℕ) where
   -- after joining
   module _
       (h : TpHeader) (passed : Passed (view s) seg (length buf) h) (long : length (s .ranges) ≡ most)
-      (g : Joined) (is : g ≡ joinedIn (s .ranges) (s .count) (record { start = h .offset; end = h .offset + h .size })) where
+      (g : Joined) (is : g ≡ joined-in (s .ranges) (s .count) (record { start = h .offset; end = h .offset + h .size })) where
     abbrev rs : List TpRange
     rs = joined (record { start = h .offset; end = h .offset + h .size }) (take (s .count) (s .ranges))
 
@@ -58,15 +58,15 @@ module _ (s : TpStream) (seg buf : List ℕ) where
         let few : s .count ≤ length (s .ranges) = omega (arith, sound (view s) (passed .good) .few, held-length (s .count) (s .ranges)) in
         λ i. joined (record { start = passed .header i .offset; end = passed .header i .offset + passed .header i .size }) (sym (held-take (s .count) (s .ranges) few) i)
 
-    full : g .full ≡ tooMany (view s) seg
-    unfolding joinedIn
+    full : g .full ≡ too-many (view s) seg
+    unfolding joined-in
     full = ap (λ (j : Joined). j .full) is ∙ fitted-full (s .ranges) (s .count) rs ∙ ap (λ (l : List TpRange). ltb most (length l)) same
 
     pub ran-full : g .full ≡ true → Ran s seg buf (record { answer = Refused RangesFull; stream = s }) buf
-    ran-full f = ran-refused RangesFull (passed .rest ∙ when-hit ranges-full (tooMany (view s) seg) pass (sym full ∙ f))
+    ran-full f = ran-refused RangesFull (passed .rest ∙ when-hit ranges-full (too-many (view s) seg) pass (sym full ∙ f))
 
     placed-in : g .full ≡ false → g ≡ record { full = false; ranges = placed (s .ranges) rs; count = length rs }
-    unfolding joinedIn
+    unfolding joined-in
     placed-in f = is ∙ fitted-placed (s .ranges) (s .count) rs (ap (λ (l : List TpRange). ltb most (length l)) same ∙ sym full ∙ f)
 
     pub ran-taken : g .full ≡ false → (e : TpEnd) → e ≡ cond (h .more) (s .end) (Known (h .offset + h .size)) → (b : List ℕ) → b ≡ written buf seg
@@ -74,7 +74,7 @@ module _ (s : TpStream) (seg buf : List ℕ) where
     ran-taken f e q b w =
         let few : length (taken (view s) seg .ranges) ≤ most = ltb-false most (length (taken (view s) seg .ranges)) (sym full ∙ f) in
         let ends : e ≡ taken (view s) seg .end = q ∙ ap (λ (k : TpHeader). cond (k .more) (s .end) (Known (k .offset + k .size))) (passed .header) in
-        ran-accepted _ b (passed .rest ∙ when-pass ranges-full (tooMany (view s) seg) pass (sym full ∙ f))
+        ran-accepted _ b (passed .rest ∙ when-pass ranges-full (too-many (view s) seg) pass (sym full ∙ f))
         (λ i. record {
           limit = s .limit;
           ranges = (ap (λ (j : Joined). j .ranges) (placed-in f) ∙ ap (placed (s .ranges)) same) i;

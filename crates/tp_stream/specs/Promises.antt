@@ -6,11 +6,11 @@ use mathlib.Core.List.{List}
 use lib.ListN.{length}
 use Rattle.numbers.specs.Refusals.{ranges-full}
 use Rattle.numbers.specs.Answers.{refused, pass, refuse_when_else_}
-use Rattle.tp_machine.specs.Segments.{endOf}
-use Rattle.tp_machine.specs.Machine.{highest, State, Out, badState, judged, tooMany, step, begun, begin}
+use Rattle.tp_machine.specs.Segments.{end-of}
+use Rattle.tp_machine.specs.Machine.{highest, State, Out, bad-state, judged, too-many, step, begun, begin}
 use Rattle.tp_machine.specs.Taking.{taking}
 use Rattle.tp_segment.specs.declared.TpHeader.{TpHeader}
-use Rattle.tp_segment.specs.Reading.{headerOf}
+use Rattle.tp_segment.specs.Reading.{header-of}
 use Rattle.tp_stream.specs.declared.TpStream.{TpStream}
 use Rattle.tp_stream.specs.declared.TpStep.{TpStep}
 use Rattle.tp_stream.specs.declared.TpTaken.{TpTaken}
@@ -42,12 +42,12 @@ pub record Took (s : TpStream) (buf : List ℕ) (r : TpTaken) (after : List ℕ)
 
 -- a segment that passed all tests but the one after joining
 pub record Passed (p : State) (seg : List ℕ) (room : ℕ) (h : TpHeader) : Type 0 where
-  pub good : badState p ≡ false
-  pub header : h ≡ headerOf seg
+  pub good : bad-state p ≡ false
+  pub header : h ≡ header-of seg
   pub long : 20 ≤ length seg
-  pub low : endOf seg ≤ highest
-  pub fits : 16 + endOf seg ≤ room
-  pub rest : judged p seg room ≡ (refuse ranges-full when tooMany p seg else pass)
+  pub low : end-of seg ≤ highest
+  pub fits : 16 + end-of seg ≤ room
+  pub rest : judged p seg room ≡ (refuse ranges-full when too-many p seg else pass)
 
 -- judging: that, or the machine's refusal
 abbrev pub Judges : State → List ℕ → ℕ → TpJudged → Type 0

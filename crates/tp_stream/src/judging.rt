@@ -3,7 +3,7 @@ ghost use mathlib.Core.Path.{_≡_};
 ghost use mathlib.Core.Bool.{_&&_, not};
 ghost use Prim.Native.Nat.{_+_, _%_};
 ghost use lib.Dec.{eqb, ltb};
-ghost use Rattle.tp_machine.specs.Machine.{conflicts, previous, begun as begunOf, begin};
+ghost use Rattle.tp_machine.specs.Machine.{conflicts, previous, begun as begun-of, begin};
 ghost use Rattle.tp_stream.specs.Saying.{answerOf};
 ghost use Rattle.tp_stream.specs.Stream.{view};
 ghost use Rattle.tp_stream.specs.Promises.{Judges};
@@ -77,7 +77,7 @@ pub(crate) fn too_short(room: usize, x: u32) -> bool
 
 // 36, or a stream of that limit may begin.
 pub(crate) fn begun(limit: u32) -> TpAnswer
-    ensures { λ r. ⌜ answerOf r ≡ begunOf limit ⌝ }
+    ensures { λ r. ⌜ answerOf r ≡ begun-of limit ⌝ }
 {
     if crate::MAX_LIMIT < limit {
         return TpAnswer::Refused(TpRefusal::LimitTooLarge { limit });

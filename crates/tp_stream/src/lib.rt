@@ -3,8 +3,8 @@ ghost use mathlib.Core.Path.{_≡_};
 ghost use mathlib.Core.Bool.{cond};
 ghost use lib.ListN.{length};
 ghost use Rattle.tp_machine.specs.declared.TpEnd.the-variants.{Known};
-ghost use Rattle.tp_machine.specs.Machine.{clear as clearOf};
-ghost use Rattle.tp_machine.specs.Taking.{complete as completeOf, ready as readyOf, report as reportOf};
+ghost use Rattle.tp_machine.specs.Machine.{clear as clear-of};
+ghost use Rattle.tp_machine.specs.Taking.{complete as complete-of, ready as ready-of, report as report-of};
 ghost use Rattle.tp_stream.specs.Stream.{view, stored};
 ghost use Rattle.tp_stream.specs.Promises.{Passed, Began, Ran, Took};
 use tp_machine::TpEnd;
@@ -148,7 +148,7 @@ fn end_after(end: TpEnd, more: bool, x: u32) -> TpEnd
 
 // Whether a stream is complete.
 pub fn complete(s: TpStream) -> bool
-    ensures { λ r. ⌜ r ≡ completeOf (view s) ⌝ }
+    ensures { λ r. ⌜ r ≡ complete-of (view s) ⌝ }
 {
     if malformed::malformed(s) {
         return false;
@@ -169,7 +169,7 @@ pub fn take(s: TpStream, buf: &mut [u8]) -> TpTaken
 
 // The report as a part of the buffer, where taking is not refused; else an empty part.
 pub fn report(s: TpStream, buf: &[u8]) -> &[u8]
-    ensures { λ r. ⌜ now r ≡ reportOf (readyOf (view s) (length (now (buf .entry)))) (now (buf .entry)) ⌝ }
+    ensures { λ r. ⌜ now r ≡ report-of (ready-of (view s) (length (now (buf .entry)))) (now (buf .entry)) ⌝ }
 {
     let TpTaken::Report(end) = taking::ready(s, buf.len()) else {
         return &buf[..0];
@@ -180,7 +180,7 @@ pub fn report(s: TpStream, buf: &[u8]) -> &[u8]
 
 // The stream without its ranges and its end.
 pub fn clear(s: TpStream) -> TpStream
-    ensures { λ r. ⌜ r ≡ stored s (clearOf (view s)) ⌝ }
+    ensures { λ r. ⌜ r ≡ stored s (clear-of (view s)) ⌝ }
 {
     let ranges = s.ranges;
     TpStream {

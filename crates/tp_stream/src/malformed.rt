@@ -3,7 +3,7 @@ ghost use mathlib.Core.Path.{_≡_};
 ghost use Prim.Native.Nat.{_≤_};
 ghost use lib.ListN.{take};
 ghost use Rattle.tp_machine.specs.Ranges.{any};
-ghost use Rattle.tp_machine.specs.Machine.{most, State, badRange, endPast, badState};
+ghost use Rattle.tp_machine.specs.Machine.{most, State, bad-range, end-past, bad-state};
 ghost use Rattle.tp_stream.specs.Stream.{view};
 use crate::TpStream;
 use tp_machine::TpEnd;
@@ -12,7 +12,7 @@ use tp_range::MAX_RANGES;
 
 // Whether a known end is past x.
 fn end_past(end: TpEnd, x: u32) -> bool
-    ensures { λ b. ⌜ b ≡ endPast end x ⌝ }
+    ensures { λ b. ⌜ b ≡ end-past end x ⌝ }
 {
     match end {
         TpEnd::Unknown => false,
@@ -22,7 +22,7 @@ fn end_past(end: TpEnd, x: u32) -> bool
 
 // Whether a range is bad in a state of that limit.
 fn bad_range(limit: u32, r: TpRange) -> bool
-    ensures { λ b. ⌜ ((p : State) → p .limit ≡ limit → b ≡ badRange p r) ⌝ }
+    ensures { λ b. ⌜ ((p : State) → p .limit ≡ limit → b ≡ bad-range p r) ⌝ }
 {
     if r.end < r.start {
         return true;
@@ -33,7 +33,7 @@ fn bad_range(limit: u32, r: TpRange) -> bool
 // Whether one of the ranges is bad.
 fn any_bad(limit: u32, ranges: [TpRange; MAX_RANGES], count: usize) -> bool
     requires { ⌜ count ≤ most ⌝ }
-    ensures { λ b. ⌜ ((p : State) → p .limit ≡ limit → b ≡ any (badRange p) (take count ranges)) ⌝ }
+    ensures { λ b. ⌜ ((p : State) → p .limit ≡ limit → b ≡ any (bad-range p) (take count ranges)) ⌝ }
 {
     let mut i: usize = 0;
     while i < count {
@@ -48,7 +48,7 @@ fn any_bad(limit: u32, ranges: [TpRange; MAX_RANGES], count: usize) -> bool
 
 // Whether the state is malformed.
 pub(crate) fn malformed(s: TpStream) -> bool
-    ensures { λ b. ⌜ b ≡ badState (view s) ⌝ }
+    ensures { λ b. ⌜ b ≡ bad-state (view s) ⌝ }
 {
     if MAX_RANGES < s.count {
         return true;

@@ -1,7 +1,7 @@
 // Whether a stream's report can be taken: answers 38, 37, 34.
 ghost use mathlib.Core.Path.{_≡_};
 ghost use mathlib.Core.Bool.{_&&_};
-ghost use Rattle.tp_machine.specs.Taking.{isKnown, whole as wholeOf, ready as readyOf};
+ghost use Rattle.tp_machine.specs.Taking.{is-known, whole as whole-of, ready as ready-of};
 ghost use Rattle.tp_stream.specs.Stream.{view};
 ghost use Rattle.tp_stream.specs.Saying.{takenOf};
 use crate::TpRefusal;
@@ -11,7 +11,7 @@ use tp_machine::TpEnd;
 
 // Whether an end is known, and there is exactly one range, beginning at 0.
 pub(crate) fn whole(s: TpStream) -> bool
-    ensures { λ r. ⌜ r ≡ (isKnown (s .end) && wholeOf (view s .ranges)) ⌝ }
+    ensures { λ r. ⌜ r ≡ (is-known (s .end) && whole-of (view s .ranges)) ⌝ }
 {
     let end = s.end;
     let TpEnd::Known(_) = end else {
@@ -27,7 +27,7 @@ pub(crate) fn whole(s: TpStream) -> bool
 
 // Answers 38, 37 and 34 for a buffer of `room` bytes, or where the one range ends.
 pub(crate) fn ready(s: TpStream, room: usize) -> TpTaken
-    ensures { λ r. ⌜ takenOf r ≡ readyOf (view s) room ⌝ }
+    ensures { λ r. ⌜ takenOf r ≡ ready-of (view s) room ⌝ }
 {
     if crate::malformed::malformed(s) {
         return TpTaken::Refused(TpRefusal::MalformedState);

@@ -4,7 +4,7 @@ ghost use Prim.Native.Nat.{_+_, _≤_};
 ghost use lib.ListN.{length};
 ghost use Rattle.numbers.specs.Bytes.{be32};
 ghost use Rattle.tp_machine.specs.Machine.{highest};
-ghost use Rattle.tp_machine.specs.Segments.{offset as offsetOf, endOf, withoutTp, header, pasted, written};
+ghost use Rattle.tp_machine.specs.Segments.{offset as offset-of, end-of, without-tp, header, pasted, written};
 
 // Copies src into buf from index `at`.
 fn put(buf: &mut [u8], at: usize, src: &[u8])
@@ -20,7 +20,7 @@ fn put(buf: &mut [u8], at: usize, src: &[u8])
 
 // A message type with 0x20 cleared.
 fn without_tp(t: u8) -> u8
-    ensures { λ r. ⌜ r ≡ withoutTp t ⌝ }
+    ensures { λ r. ⌜ r ≡ without-tp t ⌝ }
 {
     t - t / 32 % 2 * 32
 }
@@ -36,7 +36,7 @@ fn put_header(buf: &mut [u8], seg: &[u8])
 
 // The payload of a segment at `offset`, and for an offset of 0 its header too.
 pub(crate) fn write(buf: &mut [u8], seg: &[u8], offset: usize)
-    requires { ⌜ (20 ≤ length (now seg)) × (offset ≡ offsetOf (now seg)) × (16 + endOf (now seg) ≤ length (now buf)) ⌝ }
+    requires { ⌜ (20 ≤ length (now seg)) × (offset ≡ offset-of (now seg)) × (16 + end-of (now seg) ≤ length (now buf)) ⌝ }
     ensures { λ _. ⌜ now (buf .exit) ≡ written (now (buf .entry)) (now (seg .entry)) ⌝ }
 {
     if offset == 0 {

@@ -7,7 +7,7 @@ use native.Mathlib.Omega.{arith}
 use borrow.Author.Needs.{needs}
 use lib.ListN.{length, getD, drop}
 use Rattle.numbers.specs.Answers.{given, verdict}
-use Rattle.refusal.specs.Said.{saidString}
+use Rattle.refusal.specs.Said.{string-said}
 use Rattle.numbers.proofs.ByteLaws.{take-rest}
 use Rattle.sd_format.specs.Strings.{closed, judge-item, read-string}
 use Rattle.sd_format.proofs.StringLaws.{items-left, left-whole, left-end, left-terminator, left-refused, left-good}
@@ -99,7 +99,7 @@ returns-2 c =
     let told = c .enum-told2 .given in
     ap answered (told .1)
     ∙ sym (turn item .before .loop .inv
-    ∙ ap verdict (left-refused (s item) (at item) (turn item .loop-test .taken) some (saidString (told .0 .0)) (item-judged item _ (told .1))))
+    ∙ ap verdict (left-refused (s item) (at item) (turn item .loop-test .taken) some (string-said (told .0 .0)) (item-judged item _ (told .1))))
 
 cast-at : tie.Need-cast-at Inv-loop μ-loop
 cast-at c = omega (arith, item-within (c .before .before) (c .enum-told .given .1))

@@ -2,7 +2,7 @@
 use mathlib.Core.Path.{sym, ap, _∙_}
 use native.Mathlib.Omega.{arith}
 use borrow.Author.Needs.{needs}
-use Rattle.config_string.specs.Items.{itemAnswered, part-of}
+use Rattle.config_string.specs.Items.{item-said, part-of}
 use Rattle.config_string.proofs.ItemLaws.{Found, found, no-part}
 use Rattle.config_string.proofs.item_part.Statement.{statement}
 use Rattle.config_string.proofs.item_part.Tie as tie
@@ -23,7 +23,7 @@ returns : tie.Need-returns
 returns c =
     let asked = c .before .before .before in
     let start = asked .before .before in
-    sym (no-part (start .args .at) _ _ (sym (asked .next-item .ensures) ∙ ap itemAnswered (c .before .enum-told .given .1)))
+    sym (no-part (start .args .at) _ _ (sym (asked .next-item .ensures) ∙ ap item-said (c .before .enum-told .given .1)))
 
 -- the item that was found
 item : (c : tie.After-known-told)
@@ -31,7 +31,7 @@ item : (c : tie.After-known-told)
 item c =
     let asked = c .before .before .before in
     let start = asked .before .before in
-    found (start .args .s .now) (start .args .at) _ (sym (asked .next-item .ensures) ∙ ap itemAnswered (c .before .answer .given .1))
+    found (start .args .s .now) (start .args .at) _ (sym (asked .next-item .ensures) ∙ ap item-said (c .before .answer .given .1))
 
 add-start : tie.Need-add-start
 add-start c = let here = item c in omega arith

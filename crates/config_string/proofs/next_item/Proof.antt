@@ -6,7 +6,7 @@ use native.Mathlib.Omega.{arith}
 use borrow.Author.Needs.{needs}
 use lib.ListN.{length, getD, drop}
 use Rattle.numbers.specs.Answers.{accepted, given}
-use Rattle.refusal.specs.Said.{saidString}
+use Rattle.refusal.specs.Said.{string-said}
 use Rattle.sd_format.specs.Strings.{judge-item}
 use Rattle.config_string.specs.declared.StringAnswer.{StringAnswer}
 use Rattle.config_string.specs.declared.StringAnswer.the-variants.{Valid}
@@ -93,7 +93,7 @@ returns-4 c =
     let item = c .before .before .before in
     let some = item .before .before in
     let there = some .before .before in
-    sym (ap (given (past (at item))) (next-bad (s item) (at item) (there .if1 .left) (some .if2 .left) (saidString (told .0 .0)) (item-judged item _ (told .1))))
+    sym (ap (given (past (at item))) (next-bad (s item) (at item) (there .if1 .left) (some .if2 .left) (string-said (told .0 .0)) (item-judged item _ (told .1))))
 
 pub next-item-spec : {M : Type 1} → statement M
 next-item-spec =

@@ -1,5 +1,5 @@
 -- `tp_range::hull` meets its contract: field by field. Assumes nothing.
-use Rattle.tp_machine.specs.Ranges.{hullOf}
+use Rattle.tp_machine.specs.Ranges.{hull-of}
 use Rattle.tp_range.proofs.Laws.{range-eq}
 use Rattle.tp_range.proofs.hull.Statement.{statement}
 use Rattle.tp_range.proofs.hull.Tie as tie
@@ -11,7 +11,7 @@ greatest-requires : tie.Need-greatest-requires
 greatest-requires c κs = tt
 
 returns : tie.Need-returns
-unfolding hullOf
+unfolding hull-of
 returns c = range-eq _ _ (c .before .least .ensures) (c .greatest .ensures)
 
 pub hull-spec : {M : Type 1} → statement M

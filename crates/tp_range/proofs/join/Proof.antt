@@ -10,8 +10,8 @@ use native.Mathlib.Omega.{arith}
 use lib.ListN.{length, take, getD, set, length-append, length-set}
 use Rattle.tp_machine.specs.declared.TpRange.{TpRange}
 use Rattle.tp_machine.specs.Machine.{most}
-use Rattle.tp_machine.specs.Ranges.{touch, hullOf, keep, grow}
-use Rattle.tp_range.specs.Joining.{joinedIn}
+use Rattle.tp_machine.specs.Ranges.{touch, hull-of, keep, grow}
+use Rattle.tp_range.specs.Joining.{joined-in}
 use Rattle.tp_range.proofs.Laws.{none, over, over-snoc, keep-touched, keep-apart, grow-touched, grow-apart, joined-room, joined-full}
 use Rattle.tp_range.proofs.join.Statement.{statement}
 use Rattle.tp_range.proofs.join.Tie as tie
@@ -32,12 +32,12 @@ module _
     all : Held new array held out kept grown (min count most)
     all = subst (λ (j : ℕ). Held new array held out kept grown j) (le-antisymm (H .upto) ends ∙ held-is) H
 
-    with-place : kept < most → record { full = false; ranges = set out kept grown; count = kept + 1 } ≡ joinedIn array count new
+    with-place : kept < most → record { full = false; ranges = set out kept grown; count = kept + 1 } ≡ joined-in array count new
     with-place h =
         (λ j. record { full = false; ranges = set (all .lays j) (all .counts j) (all .grows j); count = all .counts j + 1 })
         ∙ joined-room array count long new (omega (arith, all .counts))
 
-    without : most ≤ kept → record { full = true; ranges = array; count = count } ≡ joinedIn array count new
+    without : most ≤ kept → record { full = true; ranges = array; count = count } ≡ joined-in array count new
     without h = joined-full array count long new (omega (arith, all .counts))
 
 abbrev Inv-loop : tie.InvT-loop
@@ -90,7 +90,7 @@ loop-again c =
       long = inv .long;
       counts = inv .counts ∙ sym (ap length k);
       lays = inv .lays ∙ sym (ap (λ (l : List TpRange). over l (at-start .args .t1)) k);
-      grows = c .hull .ensures ∙ ap (λ (g : TpRange). hullOf g (getD (at-start .args .t1) (at-loop .loop .i) none)) (inv .grows) ∙ sym (grow-touched _ _ _ none h _ e);
+      grows = c .hull .ensures ∙ ap (λ (g : TpRange). hull-of g (getD (at-start .args .t1) (at-loop .loop .i) none)) (inv .grows) ∙ sym (grow-touched _ _ _ none h _ e);
     }
 
 mul-out : tie.Need-mul-out Inv-loop μ-loop

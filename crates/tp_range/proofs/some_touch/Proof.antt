@@ -5,7 +5,7 @@ use borrow.Author.Needs.{needs}
 use native.Mathlib.Omega.{arith}
 use lib.ListN.{length, take, drop}
 use Rattle.tp_machine.specs.Machine.{most}
-use Rattle.tp_machine.specs.Ranges.{any, touch, someTouch}
+use Rattle.tp_machine.specs.Ranges.{any, touch, some-touch}
 use Rattle.tp_range.proofs.Laws.{none, take-places, any-hit, any-miss, any-end, touch-hit, touch-miss, touch-end}
 use Rattle.tp_range.proofs.some_touch.Statement.{statement}
 use Rattle.tp_range.proofs.some_touch.Tie as tie
@@ -17,7 +17,7 @@ abbrev μ-loop2 : tie.MeasureT-loop2
 μ-loop2 count ranges held i r j₀ j = held - j
 
 abbrev Inv-loop : tie.InvT-loop
-Inv-loop count ranges held i₀ i = someTouch (drop i (take held ranges)) ≡ someTouch (take count ranges)
+Inv-loop count ranges held i₀ i = some-touch (drop i (take held ranges)) ≡ some-touch (take count ranges)
 
 abbrev μ-loop : tie.MeasureT-loop
 μ-loop count ranges held i₀ i = held - i
@@ -33,7 +33,7 @@ places-requires : tie.Need-places-requires Inv-loop2 μ-loop2 Inv-loop μ-loop
 places-requires c κs = tt
 
 loop-holds : tie.Need-loop-holds Inv-loop2 μ-loop2 Inv-loop μ-loop
-loop-holds c = ap someTouch (ap (λ (n : ℕ). take n (c .before .args .t1)) (c .places .ensures) ∙ take-places (c .before .args .t1) (c .before .args .count) (long (c .before)))
+loop-holds c = ap some-touch (ap (λ (n : ℕ). take n (c .before .args .t1)) (c .places .ensures) ∙ take-places (c .before .args .t1) (c .before .args .count) (long (c .before)))
 
 mul-r : tie.Need-mul-r Inv-loop2 μ-loop2 Inv-loop μ-loop
 mul-r c = search needs

@@ -1,7 +1,7 @@
 -- `entries::entry_fields` meets its contract: each arm is told which case it has. Assumes nothing.
 use borrow.Author.Needs.{needs}
 use Rattle.sd_entry.specs.declared.SdEntry.{SdEntry}
-use Rattle.sd_entry.specs.Said.{saidEntry}
+use Rattle.sd_entry.specs.Said.{entry-said}
 use Rattle.hub.specs.Entries.{entry-fields}
 use Rattle.hub.proofs.Arms.{arm}
 use Rattle.hub.proofs.entries.entry_fields.Statement.{statement}
@@ -20,10 +20,10 @@ eventgroup-fields-requires : tie.Need-eventgroup-fields-requires
 eventgroup-fields-requires c κs = search needs
 
 returns : tie.Need-returns
-returns c = arm (λ (a : SdEntry). entry-fields (saidEntry a)) (c .service-fields .ensures) (c .before .before .entry .given .1)
+returns c = arm (λ (a : SdEntry). entry-fields (entry-said a)) (c .service-fields .ensures) (c .before .before .entry .given .1)
 
 returns-2 : tie.Need-returns-2
-returns-2 c = arm (λ (a : SdEntry). entry-fields (saidEntry a)) (c .eventgroup-fields .ensures) (c .before .before .entry2 .given .1)
+returns-2 c = arm (λ (a : SdEntry). entry-fields (entry-said a)) (c .eventgroup-fields .ensures) (c .before .before .entry2 .given .1)
 
 pub entry-fields-spec : {M : Type 1} → statement M
 entry-fields-spec =

@@ -1,6 +1,6 @@
 -- `sd_entry::SdEntry::head` meets its contract: each arm is told which kind it has. Assumes nothing.
 use borrow.Author.Needs.{needs}
-use Rattle.sd_entry.proofs.Laws.{head-said}
+use Rattle.sd_entry.proofs.Laws.{head-field-said}
 use Rattle.sd_entry.proofs.SdEntry.head.Statement.{statement}
 use Rattle.sd_entry.proofs.SdEntry.head.Tie as tie
 
@@ -11,10 +11,10 @@ enum-known-self-2 : tie.Need-enum-known-self-2
 enum-known-self-2 c = search needs
 
 returns : tie.Need-returns
-returns c = head-said (c .before .self .given .1)
+returns c = head-field-said (c .before .self .given .1)
 
 returns-2 : tie.Need-returns-2
-returns-2 c = head-said (c .before .self2 .given .1)
+returns-2 c = head-field-said (c .before .self2 .given .1)
 
 pub head-spec : {M : Type 1} → statement M
 head-spec = tie.close (tie.spec enum-known-self enum-known-self-2 returns returns-2)

@@ -9,7 +9,7 @@ use denote.Ref.{now}
 use Rattle.numbers.specs.Answers.{Verdict, pass, verdict}
 use Rattle.numbers.proofs.ByteLaws.{take-rest}
 use Rattle.sd_format.specs.Entries.{placed-entry, read-entries}
-use Rattle.sd_entry.specs.Said.{saidVerdict}
+use Rattle.sd_entry.specs.Said.{verdict-said}
 use Rattle.sd_payload.proofs.EntryLoop.{entries-end, entries-stop, entries-within, entries-more}
 use Rattle.sd_payload.proofs.entries.judge_entries.Statement.{statement}
 use Rattle.sd_payload.proofs.entries.judge_entries.Tie as tie
@@ -25,14 +25,14 @@ S c = now (c .before .before .args .entries)
 
 -- the verdict on the entry at hand
 told : (c : tie.After-judge-entry Inv-loop μ-loop)
-    → saidVerdict (c .judge-entry .result) ≡ verdict (placed-entry (c .before .before .before .before .before .args .options) (drop (c .before .before .before .loop .at) (S (c .before .before .before))))
+    → verdict-said (c .judge-entry .result) ≡ verdict (placed-entry (c .before .before .before .before .before .args .options) (drop (c .before .before .before .loop .at) (S (c .before .before .before))))
 told c =
     c .judge-entry .ensures
     ∙ ap (λ (t : List ℕ). verdict (placed-entry (c .before .before .before .before .before .args .options) t)) (take-rest (S (c .before .before .before)) (c .before .before .before .loop .at))
 
 passed : (c : tie.After-enum-told Inv-loop μ-loop)
     → verdict (placed-entry (c .before .before .before .before .before .before .before .args .options) (drop (c .before .before .before .before .before .loop .at) (S (c .before .before .before .before .before)))) ≡ pass
-passed c = sym (told (c .before .before)) ∙ ap saidVerdict (c .enum-told .given .1)
+passed c = sym (told (c .before .before)) ∙ ap verdict-said (c .enum-told .given .1)
 
 within : (c : tie.After-enum-told Inv-loop μ-loop) → c .before .before .before .before .before .loop .at + 16 ≤ length (S (c .before .before .before .before .before))
 within c = let i = c .before .before .before .before in entries-within _ (S (i .before)) _ (i .loop-test .taken) (passed c)
@@ -62,7 +62,7 @@ returns : tie.Need-returns Inv-loop μ-loop
 returns c =
     let r = c .before .before in
     let i = r .before .before in
-    sym (i .before .loop .inv .1 ∙ entries-stop _ (S (i .before)) _ (i .loop-test .taken) _ (sym (told r) ∙ ap saidVerdict (c .enum-told2 .given .1)) ∙ sym (ap saidVerdict (c .enum-told2 .given .1)))
+    sym (i .before .loop .inv .1 ∙ entries-stop _ (S (i .before)) _ (i .loop-test .taken) _ (sym (told r) ∙ ap verdict-said (c .enum-told2 .given .1)) ∙ sym (ap verdict-said (c .enum-told2 .given .1)))
 
 add-at : tie.Need-add-at Inv-loop μ-loop
 add-at c = omega (arith, within c)

@@ -13,7 +13,7 @@ use Rattle.sd_format.specs.Entries.{read-entries}
 use Rattle.sd_format.specs.Payload.{entries-part, options-part, flags}
 use Rattle.refusal.specs.declared.Refusal.{Refusal}
 use Rattle.refusal.specs.Said.{said}
-use Rattle.sd_entry.specs.Said.{saidVerdict}
+use Rattle.sd_entry.specs.Said.{verdict-said}
 use Rattle.sd_index.specs.Said.{settings-said}
 use Rattle.sd_index.specs.Indexed.{Indexed, indexed, cleared}
 use Rattle.sd_payload.specs.declared.sizes.PartSizes.{PartSizes}
@@ -71,7 +71,7 @@ abbrev index-of : tie.After-judge-entries → tie.After-index
 index-of j = j .before .before .before .before
 
 told : (j : tie.After-judge-entries)
-    → saidVerdict (j .judge-entries .result) ≡ verdict (read-entries (length (found (index-of j) .0)) (entries-part (S (start (from-index (index-of j))))))
+    → verdict-said (j .judge-entries .result) ≡ verdict (read-entries (length (found (index-of j) .0)) (entries-part (S (start (from-index (index-of j))))))
 told j =
     let x = index-of j in
     let s = start (from-index x) in
@@ -115,7 +115,7 @@ returns-2 c =
     let why : c .entry-refusal .result ≡ q = c .entry-refusal .ensures ∙ ap entry-refusal (arm .enum-told3 .given .1) in
     let (fs, read, count, left, few) = found x in
     read-refused (T s) (s .pre .0) _ _ _
-    (entries-refuse (G s) (S s) (Z s) (sizes s) fs read (said q) (sym (told j) ∙ ap saidVerdict (arm .enum-told3 .given .1)) ∙ ap (λ (y : Refusal). refused (said y)) (sym why))
+    (entries-refuse (G s) (S s) (Z s) (sizes s) fs read (said q) (sym (told j) ∙ ap verdict-said (arm .enum-told3 .given .1)) ∙ ap (λ (y : Refusal). refused (said y)) (sym why))
     (clear .clear-slots .ensures ∙ ap cleared left ∙ after-cleared (T s) (s .pre .0) fs few)
 
 returns-3 : tie.Need-returns-3
@@ -126,7 +126,7 @@ returns-3 c =
     let x = index-of j in
     let s = start (from-index x) in
     let (fs, read, count, left, few) = found x in
-    let (rd, came, same, byte, entries) = entries-good (G s) (S s) (Z s) (sizes s) fs read (sym (told j) ∙ ap saidVerdict (arm .enum-told2 .given .1)) in
+    let (rd, came, same, byte, entries) = entries-good (G s) (S s) (Z s) (sizes s) fs read (sym (told j) ∙ ap verdict-said (arm .enum-told2 .given .1)) in
     read-good (T s) (s .pre .0) _ rd _ _ _ _ came (flagged .flags-of .ensures ∙ ap flags byte) entries (sym count ∙ ap length (sym same))
     (left ∙ ap (λ (l : List Frame). table-after (T s) (accepted l)) (sym same))
 

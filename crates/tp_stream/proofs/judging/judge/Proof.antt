@@ -6,7 +6,7 @@ use native.Mathlib.Omega.{arith}
 use borrow.Author.Tests.{ltb-false}
 use Rattle.numbers.specs.Refusals.{conflicting-end}
 use Rattle.numbers.specs.Answers.{refused}
-use Rattle.tp_machine.specs.Machine.{highest, badState}
+use Rattle.tp_machine.specs.Machine.{highest, bad-state}
 use Rattle.tp_segment.specs.declared.TpHeader.{TpHeader}
 use Rattle.tp_segment.specs.Reading.{told}
 use Rattle.tp_segment.proofs.Laws.{reading-not, reading-good}
@@ -18,7 +18,7 @@ use Rattle.tp_stream.proofs.judging.judge.Statement.{statement}
 use Rattle.tp_stream.proofs.judging.judge.Tie as tie
 
 -- ---- what is known at each place
-good : (c : tie.Else1) → badState (view (c .before .before .before .args .s)) ≡ false
+good : (c : tie.Else1) → bad-state (view (c .before .before .before .args .s)) ≡ false
 good c = sym (c .before .malformed .ensures) ∙ c .if1 .left
 
 -- the header that was read, and what its tests decide
@@ -81,7 +81,7 @@ not-aligned-requires c κs = search needs
 returns-4 : tie.Need-returns-4
 returns-4 c =
     let at-second = c .before .before in
-    by-tests (at-second .before .before) .not-aligned (within at-second) (sym (c .before .not-aligned .ensures) ∙ c .if3 .taken)
+    by-tests (at-second .before .before) .unaligned-first (within at-second) (sym (c .before .not-aligned .ensures) ∙ c .if3 .taken)
 
 cast-new : tie.Need-cast-new
 cast-new c = omega (arith, small (c .before .before))

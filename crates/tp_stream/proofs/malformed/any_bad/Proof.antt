@@ -4,7 +4,7 @@ use mathlib.Core.Path.{_≡_, refl, sym, _∙_}
 use native.Mathlib.Omega.{arith}
 use lib.ListN.{length, take, drop}
 use Rattle.tp_machine.specs.Ranges.{any}
-use Rattle.tp_machine.specs.Machine.{most, State, badRange}
+use Rattle.tp_machine.specs.Machine.{most, State, bad-range}
 use Rattle.tp_range.proofs.Laws.{any-hit, any-miss, any-end}
 use Rattle.tp_stream.specs.Stream.{none}
 use borrow.Author.Needs.{needs}
@@ -12,7 +12,7 @@ use Rattle.tp_stream.proofs.malformed.any_bad.Statement.{statement}
 use Rattle.tp_stream.proofs.malformed.any_bad.Tie as tie
 
 abbrev Inv-loop : tie.InvT-loop
-Inv-loop limit count ranges i₀ i = (p : State) → p .limit ≡ limit → any (badRange p) (drop i (take count ranges)) ≡ any (badRange p) (take count ranges)
+Inv-loop limit count ranges i₀ i = (p : State) → p .limit ≡ limit → any (bad-range p) (drop i (take count ranges)) ≡ any (bad-range p) (take count ranges)
 
 abbrev μ-loop : tie.MeasureT-loop
 μ-loop limit count ranges i₀ i = count - i
@@ -40,7 +40,7 @@ returns c =
     λ p e.
     let at-call = c .before in
     let at-test = at-call .before .before in
-    sym (any-hit _ _ _ none (at-test .loop-test .taken) (omega (arith, long (at-test .before .before))) (badRange p) (sym (at-call .bad-range .ensures p e) ∙ c .if1 .taken))
+    sym (any-hit _ _ _ none (at-test .loop-test .taken) (omega (arith, long (at-test .before .before))) (bad-range p) (sym (at-call .bad-range .ensures p e) ∙ c .if1 .taken))
     ∙ at-test .before .loop .inv p e
 
 loop-less : tie.Need-loop-less Inv-loop μ-loop
@@ -51,11 +51,11 @@ loop-again c =
     λ p e.
     let at-call = c .before in
     let at-test = at-call .before .before in
-    any-miss _ _ _ none (at-test .loop-test .taken) (omega (arith, long (at-test .before .before))) (badRange p) (sym (at-call .bad-range .ensures p e) ∙ c .if1 .left)
+    any-miss _ _ _ none (at-test .loop-test .taken) (omega (arith, long (at-test .before .before))) (bad-range p) (sym (at-call .bad-range .ensures p e) ∙ c .if1 .left)
     ∙ at-test .before .loop .inv p e
 
 returns-2 : tie.Need-returns-2 Inv-loop μ-loop
-returns-2 c = λ p e. sym (any-end (badRange p) _ _ _ (c .loop-test .left)) ∙ c .before .loop .inv p e
+returns-2 c = λ p e. sym (any-end (bad-range p) _ _ _ (c .loop-test .left)) ∙ c .before .loop .inv p e
 
 pub any-bad-spec : {M : Type 1} → statement M
 any-bad-spec =

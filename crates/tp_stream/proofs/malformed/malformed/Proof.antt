@@ -3,7 +3,7 @@ use mathlib.Core.Path.{_≡_, refl, sym, _∙_}
 use lib.ListN.{length}
 use Rattle.tp_machine.specs.Machine.{most}
 use Rattle.tp_stream.proofs.StreamLaws.{length-of-map}
-use Rattle.tp_stream.proofs.MalformedLaws.{too-many, too-high, too-late, one-bad, two-touch}
+use Rattle.tp_stream.proofs.MalformedLaws.{more-than-most, too-high, too-late, one-bad, two-touch}
 use borrow.Author.Needs.{needs}
 use Rattle.tp_stream.proofs.malformed.malformed.Statement.{statement}
 use Rattle.tp_stream.proofs.malformed.malformed.Tie as tie
@@ -13,7 +13,7 @@ long : (c : tie.Start) → length (c .args .s .ranges) ≡ most
 long c = search (needs, length-of-map)
 
 returns : tie.Need-returns
-returns c = too-many (c .before .before .args .s) (c .if1 .taken)
+returns c = more-than-most (c .before .before .args .s) (c .if1 .taken)
 
 returns-2 : tie.Need-returns-2
 returns-2 c =

@@ -4,7 +4,7 @@ use mathlib.Core.Path.{_≡_, sym, _∙_}
 use mathlib.Core.Bool.{false}
 use native.Mathlib.Omega.{arith}
 use lib.ListN.{length}
-use Rattle.tp_machine.specs.Machine.{most, badState}
+use Rattle.tp_machine.specs.Machine.{most, bad-state}
 use Rattle.tp_stream.specs.Stream.{view}
 use Rattle.tp_stream.proofs.StreamLaws.{length-of-map}
 use Rattle.tp_stream.proofs.TakingLaws.{ready-bad, ready-not, ready-short, ready-end, first-end}
@@ -13,7 +13,7 @@ use Rattle.tp_stream.proofs.taking.ready.Statement.{statement}
 use Rattle.tp_stream.proofs.taking.ready.Tie as tie
 
 -- a stream that is not malformed, and the length of its array
-good : (c : tie.Else1) → badState (view (c .before .before .args .s)) ≡ false
+good : (c : tie.Else1) → bad-state (view (c .before .before .args .s)) ≡ false
 good c = sym (c .before .malformed .ensures) ∙ c .if1 .left
 
 long : (c : tie.Start) → 0 < length (c .args .s .ranges)

@@ -4,7 +4,7 @@ use mathlib.Core.Path.{sym, _∙_}
 use native.Mathlib.Omega.{arith}
 use lib.ListN.{length, take, getD, set}
 use lib.Seq.{length-take-le}
-use Rattle.tp_machine.specs.Segments.{header, withoutTp}
+use Rattle.tp_machine.specs.Segments.{header, without-tp}
 use Rattle.tp_stream.proofs.WritingLaws.{head-pasted}
 use borrow.Author.Needs.{needs}
 use Rattle.tp_stream.proofs.writing.put_header.Statement.{statement}
@@ -36,7 +36,7 @@ returns c =
     let buf = at-start .args .buf .now in
     let seg = at-start .args .seg .now in
     let k : 14 < length (take 16 seg) = omega (arith, length-take-le 16 seg (at-start .pre .0)) in
-    (λ i. set (at-put .put .ensures i) 14 (c .without-tp .ensures i)) ∙ head-pasted buf (take 16 seg) 14 (withoutTp (getD seg 14 0)) k
+    (λ i. set (at-put .put .ensures i) 14 (c .without-tp .ensures i)) ∙ head-pasted buf (take 16 seg) 14 (without-tp (getD seg 14 0)) k
 
 pub put-header-spec : {M : Type 1} → statement M
 put-header-spec =

@@ -1,6 +1,6 @@
 -- `tp_stream::writing::without_tp` meets its contract. Assumes nothing.
 use mathlib.Core.Path.{refl}
-use Rattle.tp_machine.specs.Segments.{withoutTp}
+use Rattle.tp_machine.specs.Segments.{without-tp}
 use borrow.Author.Needs.{needs}
 use Rattle.tp_stream.proofs.writing.without_tp.Statement.{statement}
 use Rattle.tp_stream.proofs.writing.without_tp.Tie as tie
@@ -12,7 +12,7 @@ sub-result : tie.Need-sub-result
 sub-result c = search needs
 
 returns : tie.Need-returns
-unfolding withoutTp
+unfolding without-tp
 returns c = refl
 
 pub without-tp-spec : {M : Type 1} → statement M

@@ -4,7 +4,7 @@ use mathlib.Core.Path.{refl, sym, ap, _∙_}
 use borrow.Author.Needs.{needs}
 use Rattle.sd_format.specs.Sequences.{behind, stands}
 use Rattle.sd_format.specs.Entries.{sixteen}
-use Rattle.sd_entry.specs.Said.{saidAnswer}
+use Rattle.sd_entry.specs.Said.{answer-said}
 use Rattle.sd_entry.specs.declared.EntryAnswer.{EntryAnswer}
 use Rattle.sd_entry.proofs.Laws.{next-ended, next-within, stepped, step-fits}
 use Rattle.sd_entry.proofs.cursor.EntryCursor.next.Statement.{statement}
@@ -39,7 +39,7 @@ returns-2 c =
     let start = within .before .before in
     let at = start .args .self .at in
     stepped (start .args .s .now) at _ (c .before .before .read-entry .ensures ∙ sym (next-within (start .args .s .now) at (within .if1 .left)))
-    (sym (ap (λ (x : EntryAnswer). stands (behind sixteen) (saidAnswer x) at) (c .enum-told2 .given .1)))
+    (sym (ap (λ (x : EntryAnswer). stands (behind sixteen) (answer-said x) at) (c .enum-told2 .given .1)))
 
 add-t5 : tie.Need-add-t5
 add-t5 c =
@@ -54,7 +54,7 @@ returns-3 c =
     let start = within .before .before in
     let at = start .args .self .at in
     stepped (start .args .s .now) at _ (c .before .before .read-entry .ensures ∙ sym (next-within (start .args .s .now) at (within .if1 .left)))
-    (sym (ap (λ (x : EntryAnswer). stands (behind sixteen) (saidAnswer x) at) (c .enum-told .given .1)))
+    (sym (ap (λ (x : EntryAnswer). stands (behind sixteen) (answer-said x) at) (c .enum-told .given .1)))
 
 pub next-spec : {M : Type 1} → statement M
 next-spec =
