@@ -1,4 +1,5 @@
 -- What a reading answers: what it read, or the first refusal; and the words in which readings are written. Assumes nothing: these are definitions.
+use Prim.Native.Nat.{ℕ}
 use mathlib.Core.Bool.{Bool, true, false}
 use mathlib.Core.List.{List, [], _∷_}
 use Rattle.numbers.specs.Refusals.{Refusal}
@@ -43,6 +44,11 @@ given f (refused r) = refused r
 abbrev pub All : {A : Type 0} → (A → Type 0) → List A → Type 0
 All P [] = Unit {0}
 All P (x ∷ xs) = P x × All P xs
+
+-- the bytes that were accepted; a refusal hands back an empty part
+abbrev pub part : Answer (List ℕ) → List ℕ
+part (accepted s) = s
+part (refused r) = []
 
 -- only whether it was accepted, or why not
 abbrev pub verdict : {A : Type 0} → Answer A → Verdict

@@ -5,7 +5,7 @@ use mathlib.Core.List.{[], _∷_}
 use Rattle.numbers.specs.Refusals.{refusal}
 use Rattle.refusal.specs.declared.StringError.{StringError}
 use Rattle.refusal.specs.declared.Refusal.{Refusal}
-use Rattle.refusal.specs.declared.Numbers.{Numbers}
+use Rattle.refusal.specs.declared.values.Numbers.{Numbers}
 use Rattle.refusal.specs.Said.{said, string-said, laid}
 
 pub string-arm : {n : Numbers} {e here : StringError} → n ≡ laid (string-said here) → e ≡ here → n ≡ laid (string-said e)

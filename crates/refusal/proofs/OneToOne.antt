@@ -1,4 +1,5 @@
--- `said` keeps what the code refuses apart: two refusals of which it says the same are one. Shown by a way back. Assumes nothing.
+-- What the code refuses is kept apart by `said`, and so are the answers that all layers share: two of which the same is said are one. Shown by a
+-- way back. Assumes nothing.
 use Prim.Native.Nat.{ℕ}
 use mathlib.Core.Path.{_≡_, refl, sym, ap, _∙_}
 use mathlib.Core.Bool.{cond}
@@ -11,7 +12,13 @@ use Rattle.refusal.specs.declared.StringError.{StringError}
 use Rattle.refusal.specs.declared.StringError.the-variants as string
 use Rattle.refusal.specs.declared.Refusal.{Refusal}
 use Rattle.refusal.specs.declared.Refusal.the-variants as code
-use Rattle.refusal.specs.Said.{said, string-said}
+use Rattle.numbers.specs.Answers.{Answer, refused}
+use Rattle.numbers.proofs.AnswerLaws.{not-refused, accepted-inj, refused-inj}
+use Rattle.refusal.specs.declared.answers.Verdict.{Verdict}
+use Rattle.refusal.specs.declared.answers.Verdict.the-variants as verdict
+use Rattle.refusal.specs.declared.answers.Count.{Count}
+use Rattle.refusal.specs.declared.answers.Count.the-variants as count
+use Rattle.refusal.specs.Said.{said, string-said, verdict-said, count-said, verdict-refusal, count-refusal}
 
 -- ---- back from a number and its values, `v`; anything for what is never said
 
@@ -50,7 +57,16 @@ refusal-of n v =
     (cond (eqb n 19) (code.ReturnCode (v 0))
     (cond (eqb n 20) code.NothingThere
     (cond (eqb n 21) code.TableMisfit
-    (code.FewSlots (v 0))))))))))))))))))))))
+    (cond (eqb n 22) (code.FewSlots (v 0))
+    (cond (eqb n 30) code.NotASegment
+    (cond (eqb n 31) (code.SegmentTooBig (v 0) (v 1) (v 2))
+    (cond (eqb n 32) (code.UnalignedTpPayloadLen (v 0) (v 1))
+    (cond (eqb n 33) (code.ConflictingEnd (v 0) (v 1))
+    (cond (eqb n 34) (code.BufferTooShort (v 0))
+    (cond (eqb n 35) code.RangesFull
+    (cond (eqb n 36) (code.LimitTooLarge (v 0))
+    (cond (eqb n 37) code.NotComplete
+    code.MalformedState)))))))))))))))))))))))))))))
 
 value : paper.Refusal → ℕ → ℕ
 value r i = getD (r .values) i 0
@@ -100,9 +116,46 @@ back (code.ReturnCode a) = refl
 back code.NothingThere = refl
 back code.TableMisfit = refl
 back (code.FewSlots a) = refl
+back code.NotASegment = refl
+back (code.SegmentTooBig a b c) = refl
+back (code.UnalignedTpPayloadLen a b) = refl
+back (code.ConflictingEnd a b) = refl
+back (code.BufferTooShort a) = refl
+back code.RangesFull = refl
+back (code.LimitTooLarge a) = refl
+back code.NotComplete = refl
+back code.MalformedState = refl
 
 pub string-one-to-one : (x y : StringError) → string-said x ≡ string-said y → x ≡ y
 string-one-to-one x y same = sym (string-back x) ∙ ap (λ (r : paper.Refusal). string-of (value r)) same ∙ string-back y
 
 pub one-to-one : (x y : Refusal) → said x ≡ said y → x ≡ y
 one-to-one x y same = sym (back x) ∙ ap (λ (r : paper.Refusal). refusal-of (r .number) (value r)) same ∙ back y
+
+-- ---- the answers: one-to-one, and so of any promise that says what they say there is one outcome
+
+-- two refusals that are told as one
+pub same-refusal : {A : Type 0} (x y : Refusal) → _≡_ {A = Answer A} (refused (said x)) (refused (said y)) → x ≡ y
+same-refusal {A} x y same = one-to-one x y (refused-inj {A = A} (said x) (said y) same)
+
+pub verdict-one-to-one : (x y : Verdict) → verdict-said x ≡ verdict-said y → x ≡ y
+verdict-one-to-one verdict.Passed verdict.Passed same = refl
+verdict-one-to-one verdict.Passed (verdict.Refused r) same = not-refused (said r) tt (sym same)
+verdict-one-to-one (verdict.Refused r) verdict.Passed same = not-refused (said r) tt same
+verdict-one-to-one (verdict.Refused r) (verdict.Refused q) same = ap verdict.Refused (same-refusal r q same)
+
+pub count-one-to-one : (x y : Count) → count-said x ≡ count-said y → x ≡ y
+count-one-to-one (count.Good n) (count.Good m) same = ap count.Good (accepted-inj n m same)
+count-one-to-one (count.Good n) (count.Refused r) same = not-refused (said r) n (sym same)
+count-one-to-one (count.Refused r) (count.Good n) same = not-refused (said r) n same
+count-one-to-one (count.Refused r) (count.Refused q) same = ap count.Refused (same-refusal r q same)
+
+-- ---- what the `else` of a `let .. else` returns: the refusal of the answer that was no other
+
+pub else-verdict : (v : Verdict) (r : paper.Refusal) → verdict-said v ≡ refused r → said (verdict-refusal v) ≡ r
+else-verdict verdict.Passed r e = not-refused r tt (sym e)
+else-verdict (verdict.Refused q) r e = refused-inj {A = Unit {0}} (said q) r e
+
+pub else-count : (c : Count) (r : paper.Refusal) → count-said c ≡ refused r → said (count-refusal c) ≡ r
+else-count (count.Good n) r e = not-refused r n (sym e)
+else-count (count.Refused q) r e = refused-inj {A = ℕ} (said q) r e

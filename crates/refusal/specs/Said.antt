@@ -1,15 +1,21 @@
--- Document 01's number and values for everything that the code refuses on the service discovery side. Assumes nothing: these are definitions.
-use Prim.Native.Nat.{ℕ}
-use mathlib.Core.List.{[], _∷_}
-use lib.ListN.{length, getD}
+-- Document 01's number and values for everything that the code refuses, and what the answers say that all layers share. Assumes nothing:
+-- these are definitions.
+use Prim.Native.Nat.{ℕ, zero, suc}
+use mathlib.Core.List.{List, [], _∷_}
+use lib.ListN.{length}
 use Rattle.numbers.specs.Refusals as paper
+use Rattle.numbers.specs.Answers as answers
 use Rattle.refusal.specs.declared.LengthSource.{LengthSource}
 use Rattle.refusal.specs.declared.LengthSource.the-variants.{Slice, OptionLength}
 use Rattle.refusal.specs.declared.StringError.{StringError}
 use Rattle.refusal.specs.declared.StringError.the-variants as string
 use Rattle.refusal.specs.declared.Refusal.{Refusal}
 use Rattle.refusal.specs.declared.Refusal.the-variants as code
-use Rattle.refusal.specs.declared.Numbers.{Numbers}
+use Rattle.refusal.specs.declared.answers.Verdict.{Verdict}
+use Rattle.refusal.specs.declared.answers.Verdict.the-variants as verdict
+use Rattle.refusal.specs.declared.answers.Count.{Count}
+use Rattle.refusal.specs.declared.answers.Count.the-variants as count
+use Rattle.refusal.specs.declared.values.Numbers.{Numbers}
 
 -- 0 for the slice, 1 for the option's length
 abbrev pub source-number : LengthSource → ℕ
@@ -47,11 +53,47 @@ said (code.ReturnCode value) = paper.wrong-return-code value
 said code.NothingThere = paper.nothing-there
 said code.TableMisfit = paper.table-misfit
 said (code.FewSlots slots) = paper.few-slots slots
+said code.NotASegment = paper.not-a-segment
+said (code.SegmentTooBig offset len max) = paper.segment-too-big offset len max
+said (code.UnalignedTpPayloadLen offset len) = paper.unaligned offset len
+said (code.ConflictingEnd previous new) = paper.conflicting-end previous new
+said (code.BufferTooShort needed) = paper.buffer-too-short needed
+said code.RangesFull = paper.ranges-full
+said (code.LimitTooLarge limit) = paper.limit-too-large limit
+said code.NotComplete = paper.not-complete
+said code.MalformedState = paper.malformed-state
 
--- a refusal in four places: its number, how many values, the values, and 0 in the places that are left
+-- ---- the answers that all layers share
+
+abbrev pub verdict-said : Verdict → answers.Verdict
+verdict-said verdict.Passed = answers.pass
+verdict-said (verdict.Refused r) = answers.refused (said r)
+
+abbrev pub count-said : Count → answers.Answer ℕ
+count-said (count.Good n) = answers.accepted n
+count-said (count.Refused r) = answers.refused (said r)
+
+-- the refusal in an answer; where there is none it is never asked for
+abbrev pub verdict-refusal : Verdict → Refusal
+verdict-refusal verdict.Passed = code.NothingThere
+verdict-refusal (verdict.Refused r) = r
+
+abbrev pub count-refusal : Count → Refusal
+count-refusal (count.Good n) = code.NothingThere
+count-refusal (count.Refused r) = r
+
+-- ---- as data
+
+-- as many values as a refusal has at most
+abbrev pub places : ℕ
+places = 4
+
+-- the first n values, and 0 in the places that are left
+abbrev pub padded : ℕ → List ℕ → List ℕ
+padded zero vs = []
+padded (suc n) [] = 0 ∷ padded n []
+padded (suc n) (v ∷ vs) = v ∷ padded n vs
+
+-- a refusal in its places: its number, how many values, and the values
 abbrev pub laid : paper.Refusal → Numbers
-laid r = record {
-  number = r .number;
-  count = length (r .values);
-  values = getD (r .values) 0 0 ∷ getD (r .values) 1 0 ∷ getD (r .values) 2 0 ∷ getD (r .values) 3 0 ∷ [];
-}
+laid r = record { number = r .number; count = length (r .values); values = padded places (r .values) }

@@ -9,12 +9,12 @@ use lib.ListN.{length, drop, getD, length-append, take-append-drop, List·getD-a
 use lib.Dec.{leb, eqb}
 use borrow.Author.Tests.{ltb-false, leb-true, eqb-true, eqb-false, le-ltb, le-leb, eq-eqb, ne-eqb}
 use Rattle.numbers.specs.Refusals.{Refusal, run-out-of-bounds}
-use Rattle.numbers.specs.Answers.{Answer, accepted, refused, Verdict, pass, refuse_when_else_}
+use Rattle.numbers.specs.Answers.{Answer, accepted, refused, Verdict, pass, refuse_when_else_, _>>_}
 use Rattle.numbers.specs.Bytes.{Bytes, be16, be24, be32, at16, at24, at32}
 use Rattle.numbers.proofs.AnswerLaws.{when-pass, when-accepted, not-refused, refused-inj, accepted-inj, bind-pass, bind-accepted, then-pass, then-accepted, test-accepted, refuse-pass}
 use Rattle.numbers.proofs.ByteLaws.{be16-at, be24-at, be32-at, tab, take-tab, at16-be, at24-be, at32-be}
 use Rattle.sd_format.specs.Options.{has}
-use Rattle.sd_format.specs.Entries.{Head, Group, Entry, find, offer, subscribe, subscribe-ack, head-of, head, group, minor, by-type, read-entry, inside, judge-runs, placed-entry}
+use Rattle.sd_format.specs.Entries.{Head, Group, Entry, find, offer, subscribe, subscribe-ack, head-of, head, group, minor, by-type, read-entry, inside, judge-run, judge-runs, placed-entry}
 use Rattle.sd_format.specs.Demand3.{RunsRefused, first-run, second-run}
 use Rattle.sd_format.specs.Layout.{bit, lay-head, lay-group, lay-entry, RunFits, GroupFits, TailFits, EntryFits}
 
@@ -39,27 +39,36 @@ run-inside n start count = (split (eqb count 0) refl, ⊎-elim (λ z. rw (eq-eqb
     either true t = refl
     either false t = t
 
-runs-fit : (n : ℕ) (h : Head) → (judge-runs n h ≡ pass) ↔ (RunFits n (h .start1) (h .count1) × RunFits n (h .start2) (h .count2))
+run-fits : (run n start count : ℕ) → (judge-run run n start count ≡ pass) ↔ RunFits n start count
+unfolding judge-run
+run-fits run n start count =
+    let inside-fits = run-inside n start count in
+    ((λ p. inside-fits .0 (refuse-pass _ _ .0 p)), (λ f. refuse-pass _ _ .1 (inside-fits .1 f)))
+
+-- the verdict on an entry's two runs
+abbrev pub runs-of : ℕ → Head → Verdict
+runs-of n h = judge-runs n (h .start1) (h .count1) (h .start2) (h .count2)
+
+runs-fit : (n : ℕ) (h : Head) → (runs-of n h ≡ pass) ↔ (RunFits n (h .start1) (h .count1) × RunFits n (h .start2) (h .count2))
 unfolding judge-runs
 runs-fit n h =
-    let one = run-inside n (h .start1) (h .count1) in
-    let two = run-inside n (h .start2) (h .count2) in (
-      (λ p. let w = test-accepted _ _ _ _ .0 p in (one .0 (w .0), two .0 (refuse-pass _ _ .0 (w .1)))),
-      (λ f. test-accepted _ _ _ _ .1 (one .1 (f .0), refuse-pass _ _ .1 (two .1 (f .1)))),
+    let one = run-fits 1 n (h .start1) (h .count1) in
+    let two = run-fits 2 n (h .start2) (h .count2) in (
+      (λ p. let w = then-accepted _ _ _ p in (one .0 (w .0), two .0 (w .1))),
+      (λ f. then-pass _ _ (one .1 (f .0)) ∙ two .1 (f .1)),
     )
 
 -- which run a refusal names
-pub runs-refused : (n : ℕ) (h : Head) (r : Refusal) → judge-runs n h ≡ refused r → RunsRefused n h r
-unfolding judge-runs refuse_when_else_
+pub runs-refused : (n : ℕ) (h : Head) (r : Refusal) → runs-of n h ≡ refused r → RunsRefused n h r
+unfolding judge-runs judge-run _>>_ refuse_when_else_
 runs-refused n h r e = go (inside n (h .start1) (h .count1)) (inside n (h .start2) (h .count2)) refl refl e
   where
     named : (q : Refusal) → RunsRefused n h q → _≡_ {A = Verdict} (refused q) (refused r) → RunsRefused n h r
     named q w same = subst (RunsRefused n h) (refused-inj q r same) w
 
     go : (one two : Bool) → inside n (h .start1) (h .count1) ≡ one → inside n (h .start2) (h .count2) ≡ two
-        → (refuse run-out-of-bounds 1 (h .start1) (h .count1) n when not one else
-        refuse run-out-of-bounds 2 (h .start2) (h .count2) n when not two else
-        pass) ≡ refused r → RunsRefused n h r
+        → ((refuse run-out-of-bounds 1 (h .start1) (h .count1) n when not one else pass)
+        >> (refuse run-out-of-bounds 2 (h .start2) (h .count2) n when not two else pass)) ≡ refused r → RunsRefused n h r
     go false two p q w = named _ (first-run (λ fits. false≢true (sym p ∙ run-inside n _ _ .1 fits))) w
     go true false p q w = named _ (second-run (run-inside n _ _ .0 p) (λ fits. false≢true (sym q ∙ run-inside n _ _ .1 fits))) w
     go true true p q w = not-refused r tt (sym w)
@@ -194,7 +203,7 @@ module _ (type : ℕ) (s : List ℕ) (e : Entry) (b : Bytes s) where
 -- ---- what an acceptance says
 
 module _ (n : ℕ) (s : List ℕ) (e : Entry) (p : placed-entry n s ≡ accepted e) where
-  opened : (read-entry s ≡ accepted e) × (judge-runs n (head-of e) ≡ pass)
+  opened : (read-entry s ≡ accepted e) × (runs-of n (head-of e) ≡ pass)
   unfolding placed-entry
   opened =
       let (x, read, later) = bind-accepted _ _ e p in

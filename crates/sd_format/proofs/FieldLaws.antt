@@ -30,11 +30,11 @@ use Rattle.sd_format.proofs.KindLaws.{row-configuration, row-load-balan
 -- ---- what the judgement of a row says
 
 judged-by : (r : Row) (body : List ℕ) (type : ℕ) → row-of type ≡ r
-    → judge-kind scanned type body ≡ (judge-length (r .len) body >> judge-text scanned (r .kind) body)
+    → judge-kind scanned type body ≡ (judge-length (r .len) (length body) >> judge-text scanned (r .kind) body)
 unfolding judge-kind
-judged-by r body type e = ap (λ (q : Row). judge-length (q .len) body >> judge-text scanned (q .kind) body) e
+judged-by r body type e = ap (λ (q : Row). judge-length (q .len) (length body) >> judge-text scanned (q .kind) body) e
 
-exact-length : (n : ℕ) (body : List ℕ) → (judge-length (exactly n) body ≡ pass) ↔ (length body ≡ n)
+exact-length : (n : ℕ) (body : List ℕ) → (judge-length (exactly n) (length body) ≡ pass) ↔ (length body ≡ n)
 unfolding judge-length
 exact-length n body =
     let t = refuse-pass _ (eqb (length body) n) in
@@ -60,7 +60,7 @@ pub record Wired (g : Settings) (o : Opt) : Type 0 where
 
 -- by the row of its type
 wired-by : (g : Settings) (o : Opt) (r : Row) → row-of (wire o .type) ≡ r → 1 ≤ length (wire o .body)
-    → (judge-length (r .len) (wire o .body) >> judge-text scanned (r .kind) (wire o .body)) ≡ pass
+    → (judge-length (r .len) (length (wire o .body)) >> judge-text scanned (r .kind) (wire o .body)) ≡ pass
     → lay-frame (wire o) ≡ lay-option o
     → fields-of (r .kind) (wire o .type) (wire o .body) ≡ o
     → permitted g (r .kind) (wire o .body) ≡ true
@@ -219,7 +219,7 @@ module _ (g : Settings) (body : List ℕ) (b : Bytes body) (some : 1 ≤ length 
   -- what the judgements say under a type
   abbrev Said : ℕ → Row → Type 0
   Said type r =
-      (judge-length (r .len) body >> judge-text scanned (r .kind) body) ≡ pass → permitted g (r .kind) body ≡ true → Back g type body (fields-of (r .kind) type body)
+      (judge-length (r .len) (length body) >> judge-text scanned (r .kind) body) ≡ pass → permitted g (r .kind) body ≡ true → Back g type body (fields-of (r .kind) type body)
 
   said-at : (type : ℕ) → Said type (row-of type)
   unfolding permitted judge-length judge-text _>>_

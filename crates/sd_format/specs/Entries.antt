@@ -99,15 +99,15 @@ sixteen e = 16
 unfoldable pub inside : (n start count : ℕ) → Bool
 inside n start count = eqb count 0 || leb (start + count) n
 
-unfoldable pub judge-runs : ℕ → Head → Verdict
-judge-runs n h =
-    refuse run-out-of-bounds 1 (h .start1) (h .count1) n when not (inside n (h .start1) (h .count1)) else
-    refuse run-out-of-bounds 2 (h .start2) (h .count2) n when not (inside n (h .start2) (h .count2)) else
-    pass
+unfoldable pub judge-run : (run n start count : ℕ) → Verdict
+judge-run run n start count = refuse run-out-of-bounds run start count n when not (inside n start count) else pass
+
+unfoldable pub judge-runs : (n start1 count1 start2 count2 : ℕ) → Verdict
+judge-runs n start1 count1 start2 count2 = judge-run 1 n start1 count1 >> judge-run 2 n start2 count2
 
 -- 11, 12 for run 1, 12 for run 2
 unfoldable pub placed-entry : ℕ → List ℕ → Answer Entry
-placed-entry n s = read-entry s >>= λ e. judge-runs n (head-of e) >> accepted e
+placed-entry n s = read-entry s >>= λ e. judge-runs n (head-of e .start1) (head-of e .count1) (head-of e .start2) (head-of e .count2) >> accepted e
 
 unfoldable pub read-entries : ℕ → List ℕ → Answer (List Entry)
 read-entries n s = all (placed-entry n) sixteen s

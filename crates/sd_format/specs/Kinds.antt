@@ -56,9 +56,9 @@ kind-of type = row-of type .kind
 -- ---- what a kind asks of the bytes after the type
 
 -- another length for a fixed kind is 7 with source 1; that the length is not zero was judged before
-unfoldable pub judge-length : Length → List ℕ → Verdict
-judge-length (exactly n) body = refuse option-length n (length body) 1 when not (eqb (length body) n) else pass
-judge-length one-or-more body = pass
+unfoldable pub judge-length : Length → (had : ℕ) → Verdict
+judge-length (exactly n) had = refuse option-length n had 1 when not (eqb had n) else pass
+judge-length one-or-more had = pass
 
 -- a configuration option's string is judged by `text`: all bytes after the first
 unfoldable pub judge-text : (List ℕ → Verdict) → Kind → List ℕ → Verdict
@@ -68,7 +68,7 @@ judge-text text (address family role) body = pass
 judge-text text unknown body = pass
 
 unfoldable pub judge-kind : (List ℕ → Verdict) → ℕ → List ℕ → Verdict
-judge-kind text type body = judge-length (row-of type .len) body >> judge-text text (kind-of type) body
+judge-kind text type body = judge-length (row-of type .len) (length body) >> judge-text text (kind-of type) body
 
 -- what the reading says of a string, and what lookup says, which scans none
 abbrev pub scanned : List ℕ → Verdict

@@ -10,7 +10,7 @@ use lib.ListN.{length, take, drop, length-drop}
 use lib.Seq.{length-take-le, getD-take, getD-drop, ext-getD}
 use Rattle.numbers.specs.Bytes.{be16, be32}
 use Rattle.numbers.specs.Refusals.{buffer-too-short, not-complete, malformed-state}
-use Rattle.numbers.specs.Answers.{accepted, All}
+use Rattle.numbers.specs.Answers.{accepted, given, All}
 use Rattle.numbers.proofs.AnswerLaws.{when-pass}
 use Rattle.tp_machine.specs.declared.TpRange.{TpRange}
 use Rattle.tp_machine.specs.Lists.{Latest}
@@ -28,9 +28,9 @@ use Rattle.tp_machine.proofs.Writing.{take-more-pasted, header-length}
 use Rattle.tp_machine.proofs.Runs.{ran, all-heads, all-each, Fits, chain-fits, every-run}
 
 -- ---- taking from a complete state, with room
-pub given : (p : State) (buf : List ℕ) (c : Complete p) → 16 + c .held ≤ length buf → ready p (length buf) ≡ accepted (c .held)
+pub ready-given : (p : State) (buf : List ℕ) (c : Complete p) → 16 + c .held ≤ length buf → ready p (length buf) ≡ accepted (c .held)
 unfolding ready
-given p buf c h =
+ready-given p buf c h =
     let e : end-held (p .ranges) ≡ c .held = ap end-held (c .one-range) in
     when-pass malformed-state (bad-state p) _ (good-means p .1 (c .good)) ∙ when-pass not-complete (not (complete p)) _ (ap not (complete-means p .1 c))
     ∙ rw e (when-pass (buffer-too-short (16 + c .held)) (ltb (length buf) (16 + c .held)) _ (le-ltb (length buf) (16 + c .held) h))
@@ -40,8 +40,9 @@ unfolding be32 be16
 field-length n = refl
 
 -- the part, by what the buffer holds
-pub part : (buf : List ℕ) (e : ℕ) → 16 + e ≤ length buf → report (accepted e) (finished (accepted e) buf) ≡ pasted (take 16 buf) 4 (be32 (e + 8)) ++ take e (drop 16 buf)
-part buf e h = take-more-pasted buf 4 (be32 (e + 8)) 16 (omega (arith, field-length (e + 8))) (omega arith) e
+pub report-part : (buf : List ℕ) (e : ℕ) → 16 + e ≤ length buf → report (accepted e) (finished (accepted e) buf) ≡ pasted (take 16 buf) 4 (be32 (e + 8)) ++ take e (drop 16 buf)
+unfolding given
+report-part buf e h = take-more-pasted buf 4 (be32 (e + 8)) 16 (omega (arith, field-length (e + 8))) (omega arith) e
 
 -- ---- the bytes of a filled buffer
 module _ (b : List ℕ) (segs : List (List ℕ)) (c : List ℕ) (f : Filled b segs c) (e : ℕ) (room : 16 + e ≤ length c) where
@@ -58,7 +59,7 @@ module _ (b : List ℕ) (segs : List (List ℕ)) (c : List ℕ) (f : Filled b se
         from = w .0;
         latest = w .1;
         bytes = take e (drop 16 c);
-        whole = part c e room ∙ ap (λ (h : List ℕ). pasted h 4 (be32 (e + 8)) ++ take e (drop 16 c)) (headed (w .0) (all-latest heads (Fits (length b)) segs (w .0) (w .1) fits .0) (w .1));
+        whole = report-part c e room ∙ ap (λ (h : List ℕ). pasted h 4 (be32 (e + 8)) ++ take e (drop 16 c)) (headed (w .0) (all-latest heads (Fits (length b)) segs (w .0) (w .1) fits .0) (w .1));
         size = length-take-le e (drop 16 c) (omega (arith, length-drop 16 c));
         all = covers;
         newest = λ x h s l. getD-take e (drop 16 c) x 0 h ∙ getD-drop 16 c x 0 ∙ f .covers x s l;
@@ -102,7 +103,7 @@ module _ (limit : ℕ) (buf : List ℕ) (ss : List (List ℕ)) where
       let run = every-run limit buf ss in
       let h : 16 + e ≤ length buf = subst (All (λ r. 16 + r .end ≤ length buf)) (c .one-range) ranges-fit .0 in
       let l : 16 + e ≤ length (out .buffer) = omega (arith, run .filled .size) in
-      let g : ready (out .state) (length (out .buffer)) ≡ accepted e = given (out .state) (out .buffer) c l in
+      let g : ready (out .state) (length (out .buffer)) ≡ accepted e = ready-given (out .state) (out .buffer) c l in
       record {
         size = e;
         one-range = c .one-range;

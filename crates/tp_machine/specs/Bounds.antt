@@ -1,6 +1,6 @@
 -- Both sides of the lines that document 01's own cases of joining leave open: how many ranges are held, the highest limit, the buffer's length,
 -- and which bytes a segment writes. Assumes nothing: these are definitions.
-use Prim.Native.Nat.{ℕ, zero, suc, _+_, _*_}
+use Prim.Native.Nat.{ℕ, _+_}
 use mathlib.Core.Path.{_≡_}
 use mathlib.Core.Bool.{false}
 use mathlib.Core.List.{List, [], _∷_, _++_}
@@ -9,22 +9,17 @@ use Rattle.numbers.specs.Refusals.{buffer-too-short, ranges-full, limit-too-lar
 use Rattle.numbers.specs.Answers.{accepted, refused, pass}
 use Rattle.tp_machine.specs.Machine.{fresh, Out, step, begun, begin, opened, fed}
 use Rattle.tp_machine.specs.Taking.{complete, taking}
-use Rattle.tp_machine.specs.Cases.{_more-at_, _final-at_}
+use Rattle.tp_machine.specs.Cases.{_more-at_, _final-at_, apart}
 
 -- a fresh stream of limit 2,112 over a buffer of nines, after segments
 abbrev pub after-all : List (List ℕ) → Out
 after-all ss = fed (opened 2112 (replicate 2128 9)) ss
 
--- n segments of 16 bytes, of which no two touch
-abbrev pub scattered : ℕ → List (List ℕ)
-scattered zero = []
-scattered (suc n) = (16 more-at (32 * n)) ∷ scattered n
-
 -- so many ranges are held, and no more; one that joins two is accepted all the same
 pub record Holding (n : ℕ) : Type 0 where
-  pub filled : length (after-all (scattered n) .state .ranges) ≡ n
-  pub full : after-all (scattered (1 + n)) .answer ≡ refused ranges-full
-  pub joins-two : after-all (scattered n ++ ((16 more-at 16) ∷ [])) .answer ≡ pass
+  pub filled : length (after-all (apart n) .state .ranges) ≡ n
+  pub full : after-all (apart (1 + n)) .answer ≡ refused ranges-full
+  pub joins-two : after-all (apart n ++ ((16 more-at 16) ∷ [])) .answer ≡ pass
 
 pub record Bounds : Type 0 where
   pub holding : Holding 32

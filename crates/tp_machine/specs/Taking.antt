@@ -6,7 +6,7 @@ use lib.ListN.{length, take}
 use lib.Dec.{ltb, eqb}
 use Rattle.numbers.specs.Bytes.{be32}
 use Rattle.numbers.specs.Refusals.{buffer-too-short, not-complete, malformed-state}
-use Rattle.numbers.specs.Answers.{Answer, accepted, refused, refuse_when_else_}
+use Rattle.numbers.specs.Answers.{Answer, accepted, refused, refuse_when_else_, given, part}
 use Rattle.tp_machine.specs.declared.TpRange.{TpRange}
 use Rattle.tp_machine.specs.declared.TpEnd.{TpEnd}
 use Rattle.tp_machine.specs.declared.TpEnd.the-variants.{Unknown, Known}
@@ -46,8 +46,7 @@ finished (refused r) buf = buf
 
 -- the report, a part of the buffer; a refusal hands back an empty one
 abbrev pub report : Answer ℕ → List ℕ → List ℕ
-report (accepted e) buf = take (16 + e) buf
-report (refused r) buf = []
+report a buf = part (given (λ e. take (16 + e) buf) a)
 
 -- what taking leaves; the state stays
 pub record Taken : Type 0 where
