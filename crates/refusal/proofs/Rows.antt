@@ -1,0 +1,96 @@
+-- Each case of the code says its row of the rules' table, and as data it stands there with zeros behind it. Assumes nothing.
+use Prim.Native.Nat.{ℕ, zero, suc, _≤_, _<_}
+use mathlib.Core.Path.{_≡_, refl, sym, ap, _∙_, subst}
+use mathlib.Core.List.{List, [], _∷_}
+use native.Mathlib.Nat.{le-of-suc-le-suc}
+use native.Mathlib.Omega.{arith}
+use lib.ListN.{length, take, getD}
+use Rattle.numbers.specs.Refusals as paper
+use Rattle.numbers.specs.Answers.{refused}
+use Rattle.refusal.specs.declared.LengthSource.the-variants.{Slice, OptionLength}
+use Rattle.refusal.specs.declared.StringError.the-variants as string
+use Rattle.refusal.specs.declared.Refusal.{Refusal}
+use Rattle.refusal.specs.declared.Refusal.the-variants as code
+use Rattle.refusal.specs.Said.{said, places, padded, laid}
+use Rattle.refusal.specs.Rows.{row, Data, Rows}
+
+-- ---- values in their places
+
+padded-front : (n : ℕ) (vs : List ℕ) → length vs ≤ n → take (length vs) (padded n vs) ≡ vs
+padded-front n [] h = refl
+padded-front zero (v ∷ vs) h = absurd (omega arith)
+padded-front (suc n) (v ∷ vs) h = ap (λ (l : List ℕ). v ∷ l) (padded-front n vs (le-of-suc-le-suc h))
+
+padded-none : (n i : ℕ) → getD (padded n []) i 0 ≡ 0
+padded-none zero i = refl
+padded-none (suc n) zero = refl
+padded-none (suc n) (suc i) = padded-none n i
+
+padded-behind : (n : ℕ) (vs : List ℕ) (i : ℕ) → length vs ≤ i → getD (padded n vs) i 0 ≡ 0
+padded-behind n [] i h = padded-none n i
+padded-behind zero (v ∷ vs) i h = refl
+padded-behind (suc n) (v ∷ vs) zero h = absurd (omega arith)
+padded-behind (suc n) (v ∷ vs) (suc i) h = padded-behind n vs i (le-of-suc-le-suc h)
+
+data-laid : (r : paper.Refusal) → length (r .values) ≤ places → Data r (laid r)
+data-laid r few =
+    record { number = refl; count = refl; values = padded-front places (r .values) few; zeros-behind = padded-behind places (r .values) }
+
+-- ---- case by case
+
+-- a refusal says its row, its number is not 0, and its values have places
+record Case (r : Refusal) : Type 0 where
+  says : said r ≡ row r
+  not-zero : 0 < row r .number
+  few : length (row r .values) ≤ places
+
+case : (r : Refusal) → Case r
+case (code.UnexpectedEndOfSlice needed) = record { says = refl; not-zero = omega arith; few = omega arith }
+case (code.EntriesLengthTooLarge len) = record { says = refl; not-zero = omega arith; few = omega arith }
+case (code.EntriesLengthUneven len) = record { says = refl; not-zero = omega arith; few = omega arith }
+case (code.OptionsLengthTooLarge len) = record { says = refl; not-zero = omega arith; few = omega arith }
+case (code.PayloadTooLarge len) = record { says = refl; not-zero = omega arith; few = omega arith }
+case (code.PayloadLengthMismatch expected actual) = record { says = refl; not-zero = omega arith; few = omega arith }
+case (code.OptionLength needed had Slice) = record { says = refl; not-zero = omega arith; few = omega arith }
+case (code.OptionLength needed had OptionLength) = record { says = refl; not-zero = omega arith; few = omega arith }
+case code.OptionLengthZero = record { says = refl; not-zero = omega arith; few = omega arith }
+case (code.ConfigurationString string.MissingTerminator) = record { says = refl; not-zero = omega arith; few = omega arith }
+case (code.ConfigurationString (string.ItemLengthExceedsRemaining item len remaining)) = record { says = refl; not-zero = omega arith; few = omega arith }
+case (code.ConfigurationString (string.TrailingDataAfterTerminator terminator)) = record { says = refl; not-zero = omega arith; few = omega arith }
+case (code.ConfigurationString (string.EmptyKey item)) = record { says = refl; not-zero = omega arith; few = omega arith }
+case (code.ConfigurationString (string.InvalidKeyByte item byte value)) = record { says = refl; not-zero = omega arith; few = omega arith }
+case (code.ConfigurationString (string.KeyContainsOnlyWhitespace item)) = record { says = refl; not-zero = omega arith; few = omega arith }
+case (code.UnknownOption type) = record { says = refl; not-zero = omega arith; few = omega arith }
+case (code.UnknownEntry type) = record { says = refl; not-zero = omega arith; few = omega arith }
+case (code.RunOutOfBounds run start count options) = record { says = refl; not-zero = omega arith; few = omega arith }
+case (code.IndexTooLarge len) = record { says = refl; not-zero = omega arith; few = omega arith }
+case (code.MessageId id) = record { says = refl; not-zero = omega arith; few = omega arith }
+case (code.ClientId client) = record { says = refl; not-zero = omega arith; few = omega arith }
+case code.SessionZero = record { says = refl; not-zero = omega arith; few = omega arith }
+case (code.InterfaceVersion version) = record { says = refl; not-zero = omega arith; few = omega arith }
+case (code.MessageType type) = record { says = refl; not-zero = omega arith; few = omega arith }
+case (code.ReturnCode value) = record { says = refl; not-zero = omega arith; few = omega arith }
+case code.NothingThere = record { says = refl; not-zero = omega arith; few = omega arith }
+case code.TableMisfit = record { says = refl; not-zero = omega arith; few = omega arith }
+case (code.FewSlots slots) = record { says = refl; not-zero = omega arith; few = omega arith }
+case code.NotASegment = record { says = refl; not-zero = omega arith; few = omega arith }
+case (code.SegmentTooBig offset len max) = record { says = refl; not-zero = omega arith; few = omega arith }
+case (code.UnalignedTpPayloadLen offset len) = record { says = refl; not-zero = omega arith; few = omega arith }
+case (code.ConflictingEnd previous new) = record { says = refl; not-zero = omega arith; few = omega arith }
+case (code.BufferTooShort needed) = record { says = refl; not-zero = omega arith; few = omega arith }
+case code.RangesFull = record { says = refl; not-zero = omega arith; few = omega arith }
+case (code.LimitTooLarge limit) = record { says = refl; not-zero = omega arith; few = omega arith }
+case code.NotComplete = record { says = refl; not-zero = omega arith; few = omega arith }
+case code.MalformedState = record { says = refl; not-zero = omega arith; few = omega arith }
+
+pub rows : Rows
+rows =
+    record {
+      rows = λ r. case r .says;
+      never-zero = λ r. subst (λ (q : paper.Refusal). 0 < q .number) (sym (case r .says)) (case r .not-zero);
+      passed = refl;
+      verdict-refused = λ r. ap refused (case r .says);
+      counted = λ n. refl;
+      count-refused = λ r. ap refused (case r .says);
+      data-of = λ r. subst (λ (q : paper.Refusal). Data (row r) (laid q)) (sym (case r .says)) (data-laid (row r) (case r .few));
+    }
