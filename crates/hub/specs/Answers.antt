@@ -1,19 +1,23 @@
--- Answers as five numbers: document 01's number, 0 for accepted, and the values that it gives, in their order. Assumes nothing: these are
--- definitions.
+-- Answers as numbers: the rules' number, 0 for accepted, and the values that it gives, in their order. Assumes nothing: these are definitions.
 use Prim.Native.Nat.{ℕ, _+_}
 use mathlib.Core.List.{List, [], _∷_}
-use lib.ListN.{getD}
 use Rattle.numbers.specs.Refusals.{Refusal}
 use Rattle.numbers.specs.Answers as paper
 use Rattle.sd_format.specs.Frames.{Frame}
 use Rattle.sd_format.specs.Frames as Frames
 use Rattle.sd_option.specs.Reading.{Head}
 use Rattle.sd_index.specs.Found.{Located}
+use Rattle.refusal.specs.declared.values.Numbers.{Numbers}
+use Rattle.refusal.specs.Said.{places, padded}
 use Rattle.hub.specs.declared.answers.Answer.{Answer}
 
 -- a number and its values; places that it does not use hold 0
 abbrev pub row : ℕ → List ℕ → Answer
-row number vs = record { number = number; value0 = getD vs 0 0; value1 = getD vs 1 0; value2 = getD vs 2 0; value3 = getD vs 3 0 }
+row number vs = record { number = number; values = padded places vs }
+
+-- numbers as data, without how many of the values count
+abbrev pub without-count : Numbers → Answer
+without-count n = record { number = n .number; values = n .values }
 
 abbrev pub refusal-row : Refusal → Answer
 refusal-row r = row (r .number) (r .values)

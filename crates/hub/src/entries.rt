@@ -1,7 +1,7 @@
 // One entry, as exported to C.
 use crate::answers::Answer;
+use crate::answers::accepted;
 use crate::answers::bit;
-use crate::answers::none;
 use crate::answers::refused;
 use sd_entry::EntryAnswer;
 use sd_entry::EntryCursor;
@@ -66,7 +66,7 @@ fn fields_of(code: u64, head: EntryHead, minor: u32, group: EventGroup) -> Entry
     ensures { λ r. ⌜ r ≡ fields code (head-said head) minor (group-said group) ⌝ }
 {
     Entry {
-        answer: none(0),
+        answer: accepted(),
         code,
         start1: head.start_index_options_1 as u64,
         start2: head.start_index_options_2 as u64,

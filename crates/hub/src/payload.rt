@@ -1,12 +1,12 @@
 // A whole payload, and the message that carries one, as exported to C.
 use crate::answers::Answer;
-use crate::answers::four;
+use crate::answers::answer_of;
 use crate::answers::refused;
-use crate::answers::three;
-use sd_index::Settings;
+use refusal::Count;
+use refusal::three;
+use sd_option::Settings;
 use sd_payload::PayloadAnswer;
 use sd_payload::SdHeaderFlags;
-use sd_payload::SizesAnswer;
 use sd_payload::judge_sizes;
 use sd_payload::read_message;
 use sd_payload::read_payload;
@@ -14,10 +14,29 @@ ghost use mathlib.Core.Path.{_≡_};
 ghost use mathlib.Core.Bool.{cond};
 ghost use Prim.Native.Nat.{_≤_};
 ghost use Rattle.sd_format.specs.Payload.{read-payload, read-message};
-ghost use Rattle.sd_payload.specs.Sized.{sized-parts};
+ghost use Rattle.sd_option.specs.Settings.{settings-said};
 ghost use Rattle.sd_payload.specs.Reads.{flags-said, payload-said};
 ghost use Rattle.hub.specs.Answers.{told};
-ghost use Rattle.hub.specs.Payload.{discarding, flag-bits, summary-values, part-values, Reads};
+ghost use Rattle.hub.specs.Payload.{settings-of, flag-bits, summary-values, nowhere, places-told, Reads};
+
+// The bit of the settings' word: unknown options are accepted although they may not be discarded.
+pub const DISCARD: u32 = 0x1;
+
+// The flags of byte 0.
+pub const REBOOT: u64 = 0x80;
+
+pub const UNICAST: u64 = 0x40;
+
+pub const INITIAL_DATA_CONTROL: u64 = 0x20;
+
+// The settings that a word's bits tell; bits without a name are ignored.
+fn settings_of(word: u32) -> Settings
+    ensures { λ r. ⌜ settings-said r ≡ settings-of word ⌝ }
+{
+    Settings {
+        discard_unknown_option: word / DISCARD % 2 == 1,
+    }
+}
 
 // A flag's bit where it is set.
 fn flag(set: bool, value: u64) -> u64
@@ -30,9 +49,9 @@ fn flag(set: bool, value: u64) -> u64
 fn flag_bits(flags: SdHeaderFlags) -> u64
     ensures { λ r. ⌜ r ≡ flag-bits (flags-said flags) ⌝ }
 {
-    flag(flags.reboot, 0x80)
-        + flag(flags.unicast, 0x40)
-        + flag(flags.explicit_initial_data_control, 0x20)
+    flag(flags.reboot, REBOOT)
+        + flag(flags.unicast, UNICAST)
+        + flag(flags.explicit_initial_data_control, INITIAL_DATA_CONTROL)
 }
 
 // The answer of a reading: the flags, how many entries, and how many options.
@@ -42,12 +61,12 @@ fn payload_answer(answer: PayloadAnswer) -> Answer
     match answer {
         PayloadAnswer::Good(payload) => {
             let flags = payload.flags;
-            three(
+            answer_of(three(
                 0,
                 flag_bits(flags),
                 payload.entries as u64,
                 payload.options as u64,
-            )
+            ))
         }
         PayloadAnswer::Refused(refusal) => refused(refusal),
     }
@@ -55,43 +74,58 @@ fn payload_answer(answer: PayloadAnswer) -> Answer
 
 // A whole payload, with the offsets of its options in the lent table: 22, then 1 to 6, the options, 10, the entries.
 #[no_mangle]
-pub extern "C" fn viaductle_read(payload: &[u8], table: &mut [u16], discard: bool) -> Answer
-    ensures { λ r. ⌜ Reads (read-payload (discarding discard) (now (payload .entry))) (now (table .entry)) r (now (table .exit)) ⌝ }
+pub extern "C" fn viaductle_read(payload: &[u8], table: &mut [u16], settings: u32) -> Answer
+    ensures { λ r. ⌜ Reads (read-payload (settings-of settings) (now (payload .entry))) (now (table .entry)) r (now (table .exit)) ⌝ }
 {
-    let settings = Settings {
-        discard_unknown_option: discard,
-    };
-    payload_answer(read_payload(settings, payload, table))
+    payload_answer(read_payload(settings_of(settings), payload, table))
 }
 
 // A message with its SD header: 22, then 1 with 16, 14 to 19, and then all later bytes as the payload.
 #[no_mangle]
-pub extern "C" fn viaductle_read_message(message: &[u8], table: &mut [u16], discard: bool) -> Answer
-    ensures { λ r. ⌜ Reads (read-message (discarding discard) (now (message .entry))) (now (table .entry)) r (now (table .exit)) ⌝ }
+pub extern "C" fn viaductle_read_message(message: &[u8], table: &mut [u16], settings: u32) -> Answer
+    ensures { λ r. ⌜ Reads (read-message (settings-of settings) (now (message .entry))) (now (table .entry)) r (now (table .exit)) ⌝ }
 {
-    let settings = Settings {
-        discard_unknown_option: discard,
-    };
-    payload_answer(read_message(settings, message, table))
+    payload_answer(read_message(settings_of(settings), message, table))
 }
 
-// The parts of a payload whose sizes pass, 1 to 6: where each starts, and how long it is.
-#[no_mangle]
-pub extern "C" fn viaductle_parts(payload: &[u8]) -> Answer
-    ensures { λ r. ⌜ r ≡ told part-values (sized-parts (now (payload .entry))) ⌝ }
+// Where the two parts of a payload start, and how long they are.
+#[repr(C)]
+pub struct Places {
+    pub entries_at: u64,
+    pub entries_len: u64,
+    pub options_at: u64,
+    pub options_len: u64,
+}
+
+// Two empty parts.
+fn nowhere() -> Places
+    ensures { λ r. ⌜ r ≡ nowhere ⌝ }
 {
+    Places {
+        entries_at: 0,
+        entries_len: 0,
+        options_at: 0,
+        options_len: 0,
+    }
+}
+
+// The parts of a payload that was read with this answer; they are empty after a refusal, and where the bytes' own sizes are refused.
+#[no_mangle]
+pub extern "C" fn viaductle_parts(payload: &[u8], answer: Answer) -> Places
+    ensures { λ r. ⌜ r ≡ places-told (answer .number) (now (payload .entry)) ⌝ }
+{
+    if answer.number != 0 {
+        return nowhere();
+    }
     let sizes = judge_sizes(payload);
-    match sizes {
-        SizesAnswer::Good(parts) => {
-            let from = 12 + parts.entries;
-            four(
-                0,
-                8,
-                parts.entries as u64,
-                from as u64,
-                parts.options as u64,
-            )
-        }
-        SizesAnswer::Refused(refusal) => refused(refusal),
+    let Count::Good(entries) = sizes else {
+        return nowhere();
+    };
+    let from = 12 + entries;
+    Places {
+        entries_at: 8,
+        entries_len: entries as u64,
+        options_at: from as u64,
+        options_len: (payload.len() - from) as u64,
     }
 }

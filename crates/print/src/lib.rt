@@ -2,6 +2,7 @@
 // what a program prints is held to its file `stdout`.
 use libc::STDOUT_FILENO;
 use refusal::Numbers;
+use refusal::PLACES;
 
 // Text as it is.
 pub fn text(s: &[u8]) {
@@ -79,28 +80,29 @@ pub fn bytes(s: &[u8]) {
     }
 }
 
-// One of `count` values, with what stands in front of it; nothing past them.
-fn value(count: usize, place: usize, v: usize) {
-    if place < count {
-        if place == 0 {
-            text(b" (");
-        } else {
-            text(b", ");
-        }
-        number(v);
+// A value, with what stands in front of it.
+fn value(place: usize, v: u64) {
+    if place == 0 {
+        text(b" (");
+    } else {
+        text(b", ");
     }
+    io::print_decimal(STDOUT_FILENO, v);
 }
 
 // A refusal: its number, and its values in brackets.
 pub fn refused(n: Numbers) {
     text(b"refused, ");
-    number(n.number as usize);
+    io::print_decimal(STDOUT_FILENO, n.number);
     let count = n.count;
     let values = n.values;
-    value(count, 0, values[0]);
-    value(count, 1, values[1]);
-    value(count, 2, values[2]);
-    value(count, 3, values[3]);
+    let mut i: usize = 0;
+    while i < PLACES {
+        if i < count {
+            value(i, values[i]);
+        }
+        i += 1;
+    }
     if 0 < count {
         text(b")");
     }

@@ -1,13 +1,13 @@
 // The parts of a record.
 ghost use mathlib.Core.Path.{_≡_};
 ghost use Prim.Native.Nat.{_<_};
-ghost use mathlib.Core.Bool.{_&&_};
-ghost use lib.Dec.{eqb};
 ghost use lib.ListN.{getD};
 ghost use Rattle.numbers.specs.Bytes.{at32};
-ghost use Rattle.replay.specs.Records.{word-of, value-of, check-of, answer-of, input-of, alike};
+ghost use Rattle.replay.specs.Records.{word-of, value-of, check-of, answer-of, input-of, equal, alike};
 use big_endian::be32;
 use refusal::Numbers;
+use refusal::PLACES;
+use refusal::four;
 
 // The byte at a place.
 pub fn byte(s: &[u8], place: usize) -> u8
@@ -44,11 +44,11 @@ pub fn argument(s: &[u8], place: u8) -> u32
 }
 
 // A value of the answer, 0 past the last.
-fn value(s: &[u8], place: u8) -> usize
+fn value(s: &[u8], place: u8) -> u64
     ensures { λ r. ⌜ r ≡ value-of (now (s .entry)) place ⌝ }
 {
     if place < byte(s, 4) {
-        return word(s, byte(s, 3) as u16 + place as u16) as usize;
+        return word(s, byte(s, 3) as u16 + place as u16) as u64;
     }
     0
 }
@@ -64,14 +64,18 @@ pub fn check(s: &[u8], place: u8) -> u32
 pub fn recorded(s: &[u8]) -> Numbers
     ensures { λ r. ⌜ r ≡ answer-of (now (s .entry)) ⌝ }
 {
-    let a = value(s, 0);
-    let b = value(s, 1);
-    let c = value(s, 2);
-    let d = value(s, 3);
+    let answer = four(
+        byte(s, 2) as u64,
+        value(s, 0),
+        value(s, 1),
+        value(s, 2),
+        value(s, 3),
+    );
+    let values = answer.values;
     Numbers {
-        number: byte(s, 2),
+        number: answer.number,
         count: byte(s, 4) as usize,
-        values: [a, b, c, d],
+        values,
     }
 }
 
@@ -87,27 +91,27 @@ pub fn input(s: &[u8]) -> &[u8]
     &s[at..]
 }
 
-// Whether two numbers are the same, and the rest is.
-fn also(x: usize, y: usize, rest: bool) -> bool
-    ensures { λ r. ⌜ r ≡ (eqb x y && rest) ⌝ }
+// Whether the values of two answers are the same, place by place.
+fn same_values(x: [u64; PLACES], y: [u64; PLACES]) -> bool
+    ensures { λ r. ⌜ r ≡ equal x y ⌝ }
 {
-    if x == y {
-        return rest;
+    let mut i: usize = 0;
+    while i < PLACES {
+        if x[i] != y[i] {
+            return false;
+        }
+        i += 1;
     }
-    false
+    true
 }
 
-// Whether two answers are the same.
-pub fn same(a: Numbers, b: Numbers) -> bool
-    ensures { λ r. ⌜ r ≡ alike a b ⌝ }
+// Whether this number with these values is the recorded answer.
+pub fn same(recorded: Numbers, number: u64, values: [u64; PLACES]) -> bool
+    ensures { λ r. ⌜ r ≡ alike recorded number values ⌝ }
 {
-    let x = a.values;
-    let y = b.values;
-    let last = also(x[2], y[2], x[3] == y[3]);
-    let values = also(x[0], y[0], also(x[1], y[1], last));
-    also(
-        a.number as usize,
-        b.number as usize,
-        also(a.count, b.count, values),
-    )
+    if recorded.number != number {
+        return false;
+    }
+    let told = recorded.values;
+    same_values(told, values)
 }

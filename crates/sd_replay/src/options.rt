@@ -1,144 +1,83 @@
-// What is told of options, in a check sum or as an answer: one option with all its fields, all options by the cursor, a run of them.
-use crate::answer::accepted;
+// What is told of options, in a check sum: one option with all its fields, all options one after the other, a run of them, a table.
 use crate::answer::add_answer;
 use crate::answer::add_value;
-use crate::answer::add_zeros;
-use crate::answer::bit;
-use refusal::Numbers;
+use hub::options::Option;
+use hub::options::viaductle_next_of_run;
+use hub::options::viaductle_next_option;
 use replay::add_byte;
-use replay::add_number;
-use sd_field::ByteAnswer;
-use sd_field::SizeAnswer;
-use sd_field::WordAnswer;
-use sd_index::FoundAnswer;
-use sd_index::OptionCursor;
-use sd_index::RunCursor;
-use sd_option::reading::OptionAnswer;
-use sd_option::reading::OptionHead;
 
 // More than the options that an options part, or a run, has at most.
-const MOST: u32 = 400;
+const MOST: usize = 400;
 
-// An option at a place: its type, the place, how many bytes it takes.
-fn placed(head: OptionHead, at: usize) -> Numbers {
-    accepted(3, [head.code as usize, at, head.size, 0])
+// The sum of what reading one option told: the answer, then its eleven fields.
+pub(crate) fn sum_of_option(o: Option) -> u32 {
+    let answer = o.answer;
+    let s = add_value(add_value(add_answer(0, answer), o.code), o.size);
+    let s = add_value(s, o.discardable);
+    let s = add_value(add_value(s, o.priority), o.weight);
+    let s = add_value(add_value(s, o.address_at), o.address_len);
+    let s = add_value(add_value(s, o.protocol), o.port);
+    add_value(add_value(s, o.string_at), o.string_len)
 }
 
-// A field of two bytes, 0 where the option has none.
-fn word_or_zero(answer: WordAnswer) -> u32 {
-    match answer {
-        WordAnswer::Good(n) => n as u32,
-        WordAnswer::Refused(_) => 0,
-    }
-}
-
-// A field of one byte, 0 where the option has none.
-fn byte_or_zero(answer: ByteAnswer) -> u32 {
-    match answer {
-        ByteAnswer::Good(n) => n as u32,
-        ByteAnswer::Refused(_) => 0,
-    }
-}
-
-// A sum with the place and the length of a part of an option; it stands behind the option's first byte. Zeros where the option has none.
-fn add_part(sum: u32, answer: SizeAnswer) -> u32 {
-    match answer {
-        SizeAnswer::Good(size) => add_value(add_number(sum, 4), size),
-        SizeAnswer::Refused(_) => add_zeros(sum, 2),
-    }
-}
-
-// A sum with the option in front of `s`, which was accepted, and all its fields.
-fn add_fields(sum: u32, head: OptionHead, s: &[u8]) -> u32 {
-    let answered = add_answer(sum, accepted(0, [0, 0, 0, 0]));
-    let coded = add_number(answered, head.code as u32);
-    let sized = add_value(coded, head.size);
-    let bits = add_number(sized, bit(head.discardable));
-    let first = add_number(bits, word_or_zero(sd_field::priority(s)));
-    let second = add_number(first, word_or_zero(sd_field::weight(s)));
-    let addressed = add_part(second, sd_field::address_size(s));
-    let protocol = add_number(addressed, byte_or_zero(sd_field::protocol(s)));
-    let port = add_number(protocol, word_or_zero(sd_field::port(s)));
-    add_part(port, sd_field::string_size(s))
-}
-
-// The sum of what reading the option in front of `s` answered.
-pub(crate) fn sum_of_option(answer: OptionAnswer, s: &[u8]) -> u32 {
-    match answer {
-        OptionAnswer::Good(head) => add_fields(0, head, s),
-        OptionAnswer::Refused(refusal) => add_zeros(
-            add_answer(0, refusal::numbers_of(refusal)),
-            11,
-        ),
-    }
-}
-
-// What the option cursor answered at a place.
-fn step_numbers(answer: OptionAnswer, at: usize) -> Numbers {
-    match answer {
-        OptionAnswer::Good(head) => placed(head, at),
-        OptionAnswer::Refused(refusal) => refusal::numbers_of(refusal),
-    }
-}
-
-// The sum of all options by the cursor, with its closing answer.
+// The sum of a few options: where the next one starts is where this one ends.
 pub(crate) fn sum_of_options(options: &[u8]) -> u32 {
     let mut sum: u32 = 0;
-    let mut cursor = OptionCursor::new();
-    let mut left = MOST;
-    while 0 < left {
-        left -= 1;
-        let offset = cursor.at;
-        let step = cursor.next(options);
-        let answer = step.answer;
-        cursor = step.cursor;
-        sum = add_answer(sum, step_numbers(answer, offset.0));
-        let OptionAnswer::Good(_) = answer else {
+    let mut at: usize = 0;
+    let mut turns: usize = 0;
+    while turns < MOST {
+        let answer = viaductle_next_option(options, at);
+        sum = add_answer(sum, answer);
+        if answer.number != 0 {
             return sum;
-        };
+        }
+        let v = answer.values;
+        at = behind(v[1], v[2]);
+        turns += 1;
     }
     sum
 }
 
-// What lookup answered.
-pub(crate) fn found_numbers(answer: FoundAnswer) -> Numbers {
-    match answer {
-        FoundAnswer::Good(found) => {
-            let offset = found.offset;
-            let head = found.head;
-            placed(head, offset.0)
-        }
-        FoundAnswer::Refused(refusal) => refusal::numbers_of(refusal),
+// Where a cursor goes on behind an option; nowhere that bytes are where that is no place.
+fn behind(at: u64, size: u64) -> usize {
+    if at < 0x10000 && size < 0x20000 {
+        return (at + size) as usize;
     }
+    0x40000
 }
 
-// How many options a run has, and the sum of what its cursor answered.
+// How many options a run has, and the sum of what was told of them.
 pub(crate) struct RunSum {
-    pub(crate) options: usize,
+    pub(crate) options: u64,
     pub(crate) sum: u32,
 }
 
-// A run by its cursor, with its closing answer.
-pub(crate) fn sum_of_run(options: &[u8], table: &[u16], count: usize, run: RunCursor) -> RunSum {
+// A run from its start, with the closing answer.
+pub(crate) fn sum_of_run(
+    options: &[u8],
+    table: &[u16],
+    count: usize,
+    start: u8,
+    left: u8,
+) -> RunSum {
     let mut sum: u32 = 0;
-    let mut cursor = run;
-    let mut turns: usize = 0;
-    while turns < 400 {
-        let step = cursor.next(options, table, count);
-        let answer = step.answer;
-        cursor = step.cursor;
-        sum = add_answer(sum, found_numbers(answer));
-        let FoundAnswer::Good(_) = answer else {
+    let mut turns: u8 = 0;
+    while turns < left {
+        let next = start as usize + turns as usize;
+        let answer = viaductle_next_of_run(options, table, count, next, (left - turns) as usize);
+        sum = add_answer(sum, answer);
+        if answer.number != 0 {
             return RunSum {
-                options: turns,
+                options: turns as u64,
                 sum,
             };
-        };
+        }
         turns += 1;
     }
+    let last = viaductle_next_of_run(options, table, count, start as usize + left as usize, 0);
     RunSum {
-        options: turns,
-        sum,
+        options: left as u64,
+        sum: add_answer(sum, last),
     }
 }
 

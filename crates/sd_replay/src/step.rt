@@ -1,66 +1,75 @@
-// One record: what is read, and whether all that is told of it is as recorded.
-use crate::answer::accepted;
-use crate::answer::bit;
+// One record: what is read by the exported functions, and whether all that is told of it is as recorded.
 use crate::entries::add_entry;
 use crate::entries::sum_of_entries;
-use crate::options::found_numbers;
 use crate::options::sum_of_option;
 use crate::options::sum_of_options;
 use crate::options::sum_of_run;
 use crate::options::sum_of_table;
-use config_string::StringAnswer;
-use refusal::Numbers;
+use hub::answers::Answer;
+use hub::entries::viaductle_next_entry;
+use hub::options::viaductle_index;
+use hub::options::viaductle_lookup;
+use hub::options::viaductle_read_option;
+use hub::options::viaductle_string;
+use hub::payload::Places;
+use hub::payload::viaductle_parts;
+use hub::payload::viaductle_read;
+use hub::payload::viaductle_read_message;
+use refusal::one;
 use replay::argument;
 use replay::check;
 use replay::input;
 use replay::recorded;
 use replay::same;
-use sd_entry::EntryAnswer;
-use sd_entry::EntryCursor;
-use sd_index::IndexAnswer;
-use sd_index::RunCursor;
-use sd_index::Settings;
-use sd_option::Ordinal;
-use sd_option::reading::OptionAnswer;
-use sd_payload::PayloadAnswer;
-use sd_payload::SdPayload;
 
-// The settings of a record.
-fn settings(record: &[u8]) -> Settings {
-    Settings {
-        discard_unknown_option: replay::byte(record, 1) == 1,
+// The settings of a record: the word's bit for discarding is the record's setting.
+fn settings(record: &[u8]) -> u32 {
+    if replay::byte(record, 1) == 1 {
+        return hub::payload::DISCARD;
     }
+    0
 }
 
-// Whether a part's checks agree: its place, which is fixed, and its length.
-fn entries_agree(record: &[u8], entries: &[u8]) -> bool {
-    check(record, 0) == 8
-        && check(record, 1) as usize == entries.len()
+// Whether an answer is the recorded one.
+fn told(record: &[u8], answer: Answer) -> bool {
+    let values = answer.values;
+    same(recorded(record), answer.number, values)
+}
+
+// The part of some bytes that starts at a place and has so many; none where they do not lie there.
+fn part(s: &[u8], at: u64, len: u64) -> &[u8] {
+    if s.len() as u64 <= at {
+        return &s[0..0];
+    }
+    let from = at as usize;
+    let rest = &s[from..];
+    if (rest.len() as u64) < len {
+        return &s[0..0];
+    }
+    let n = len as usize;
+    &rest[..n]
+}
+
+// Whether a payload's parts and the table are as recorded.
+fn parts_agree(record: &[u8], payload: &[u8], places: Places, table: &[u16]) -> bool {
+    let entries = part(payload, places.entries_at, places.entries_len);
+    let options = part(payload, places.options_at, places.options_len);
+    check(record, 0) as u64 == places.entries_at
+        && check(record, 1) as u64 == places.entries_len
+        && check(record, 2) == sum_of_table(table)
         && check(record, 3) == sum_of_entries(entries)
-}
-
-// What an accepted payload says: its flags as sent, and how many entries and options.
-fn payload_numbers(p: SdPayload) -> Numbers {
-    let flags = p.flags;
-    let bits = 128 * bit(flags.reboot)
-        + 64 * bit(flags.unicast)
-        + 32 * bit(flags.explicit_initial_data_control);
-    accepted(3, [bits as usize, p.entries, p.options, 0])
+        && check(record, 4) == sum_of_options(options)
 }
 
 // A payload that was read, with its parts and the table.
-fn payload_agrees(record: &[u8], payload: &[u8], answer: PayloadAnswer, table: &[u16]) -> bool {
-    match answer {
-        PayloadAnswer::Good(p) => {
-            let entries = sd_payload::entries_part(payload, answer);
-            let options = sd_payload::options_part(payload, answer);
-            same(recorded(record), payload_numbers(p))
-                && entries_agree(record, entries)
-                && check(record, 2) == sum_of_table(table)
-                && check(record, 4) == sum_of_options(options)
-        }
-        PayloadAnswer::Refused(refusal) => same(recorded(record), refusal::numbers_of(refusal)),
+fn payload_agrees(record: &[u8], payload: &[u8], answer: Answer, table: &[u16]) -> bool {
+    if !told(record, answer) {
+        return false;
     }
+    if answer.number != 0 {
+        return true;
+    }
+    parts_agree(record, payload, viaductle_parts(payload, answer), table)
 }
 
 // The payload of a message: what stands behind its sixteen header bytes.
@@ -74,32 +83,32 @@ fn behind_header(message: &[u8]) -> &[u8] {
 // The index alone.
 fn index_agrees(record: &[u8], table: &mut [u16]) -> bool {
     let options = input(record);
-    let answer = sd_index::read_index(options, table);
-    match answer {
-        IndexAnswer::Good(count) => {
-            same(recorded(record), accepted(1, [count, 0, 0, 0]))
-                && check(record, 0) == sum_of_table(table)
-                && check(record, 1) == sum_of_options(options)
-        }
-        IndexAnswer::Refused(refusal) => same(recorded(record), refusal::numbers_of(refusal)),
+    let answer = viaductle_index(options, table);
+    if !told(record, answer) {
+        return false;
     }
+    if answer.number != 0 {
+        return true;
+    }
+    check(record, 0) == sum_of_table(table) && check(record, 1) == sum_of_options(options)
 }
 
 // How many options an options part has that the index accepts; none where it does not.
 fn count_of(options: &[u8], table: &mut [u16]) -> usize {
-    let answer = sd_index::read_index(options, table);
-    match answer {
-        IndexAnswer::Good(count) => count,
-        IndexAnswer::Refused(_) => 0,
+    let answer = viaductle_index(options, table);
+    if answer.number != 0 {
+        return 0;
     }
+    let values = answer.values;
+    (values[0] % 0x10000) as usize
 }
 
 // A lookup.
 fn lookup_agrees(record: &[u8], table: &mut [u16]) -> bool {
     let options = input(record);
     let count = count_of(options, table);
-    let answer = sd_index::look_up(options, table, count, Ordinal(argument(record, 0) as usize));
-    same(recorded(record), found_numbers(answer))
+    let ordinal = argument(record, 0) as usize;
+    told(record, viaductle_lookup(options, table, count, ordinal))
 }
 
 // A number of one byte.
@@ -111,63 +120,43 @@ fn low_byte(n: u32) -> u8 {
 fn run_agrees(record: &[u8], table: &mut [u16]) -> bool {
     let options = input(record);
     let count = count_of(options, table);
-    let run = RunCursor::new(low_byte(argument(record, 0)), low_byte(argument(record, 1)));
-    let said = sum_of_run(options, table, count, run);
-    same(recorded(record), accepted(1, [said.options, 0, 0, 0])) && check(record, 0) == said.sum
-}
-
-// The number and the values of an entry's answer.
-fn entry_numbers(answer: EntryAnswer) -> Numbers {
-    match answer {
-        EntryAnswer::Good(_) => accepted(0, [0, 0, 0, 0]),
-        EntryAnswer::Refused(refusal) => refusal::numbers_of(refusal),
-    }
+    let start = low_byte(argument(record, 0));
+    let said = sum_of_run(options, table, count, start, low_byte(argument(record, 1)));
+    let accepted = one(0, said.options);
+    let values = accepted.values;
+    same(recorded(record), accepted.number, values) && check(record, 0) == said.sum
 }
 
 // One entry, as the cursor reads it.
 fn entry_agrees(record: &[u8]) -> bool {
-    let cursor = EntryCursor::new();
-    let step = cursor.next(input(record));
-    let answer = step.answer;
-    same(recorded(record), entry_numbers(answer)) && check(record, 0) == add_entry(0, answer)
-}
-
-// The number and the values of an option's answer.
-fn option_numbers(answer: OptionAnswer) -> Numbers {
-    match answer {
-        OptionAnswer::Good(_) => accepted(0, [0, 0, 0, 0]),
-        OptionAnswer::Refused(refusal) => refusal::numbers_of(refusal),
-    }
+    let entry = viaductle_next_entry(input(record), 0);
+    let answer = entry.answer;
+    told(record, answer) && check(record, 0) == add_entry(0, entry)
 }
 
 // One option, with its fields.
 fn option_agrees(record: &[u8]) -> bool {
-    let bytes = input(record);
-    let answer = sd_option::reading::read_option(bytes);
-    same(recorded(record), option_numbers(answer))
-        && check(record, 0) == sum_of_option(answer, bytes)
+    let option = viaductle_read_option(input(record));
+    let answer = option.answer;
+    told(record, answer) && check(record, 0) == sum_of_option(option)
 }
 
 // A configuration string.
 fn string_agrees(record: &[u8]) -> bool {
-    let answer = config_string::check_string(input(record));
-    match answer {
-        StringAnswer::Valid => same(recorded(record), accepted(0, [0, 0, 0, 0])),
-        StringAnswer::Refused(error) => same(recorded(record), refusal::numbers_of_string(error)),
-    }
+    told(record, viaductle_string(input(record)))
 }
 
 // A payload.
 fn read_payload_agrees(record: &[u8], table: &mut [u16]) -> bool {
     let payload = input(record);
-    let answer = sd_payload::read_payload(settings(record), payload, table);
+    let answer = viaductle_read(payload, table, settings(record));
     payload_agrees(record, payload, answer, table)
 }
 
 // A message with SD header.
 fn read_message_agrees(record: &[u8], table: &mut [u16]) -> bool {
     let message = input(record);
-    let answer = sd_payload::read_message(settings(record), message, table);
+    let answer = viaductle_read_message(message, table, settings(record));
     payload_agrees(record, behind_header(message), answer, table)
 }
 

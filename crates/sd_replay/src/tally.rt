@@ -14,7 +14,7 @@ const STRINGS: u8 = 40;
 const RECORDS: u8 = 49;
 
 // The place of one of the ten numbers from a place on.
-fn within(from: u8, n: usize) -> u8
+fn within(from: u8, n: u64) -> u8
     requires { ⌜ from ≤ 40 ⌝ }
 {
     from + (n % 10) as u8
@@ -27,12 +27,12 @@ fn place_of(record: &[u8]) -> u8 {
         let values = said.values;
         return within(STRINGS, values[0]);
     }
-    said.number
+    (said.number % 256) as u8
 }
 
 // Counts a record that agreed.
 pub(crate) fn add(record: &[u8], counts: &mut [u32]) {
-    count(counts, within(KINDS, byte(record, 0) as usize));
+    count(counts, within(KINDS, byte(record, 0) as u64));
     count(counts, place_of(record));
     count(counts, RECORDS);
 }

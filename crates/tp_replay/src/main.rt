@@ -1,37 +1,33 @@
 // Replays what the Rust crate said to sequences of segments (the file that the first argument names; compare/FORMAT.md), and prints the first
-// record that does not agree, and how many do, by their answers. After each step all is compared: the answer, the ranges, the end, the report.
+// record that does not agree, and how many do, by their answers. The exported functions are called, over a stream's words. After each step all is
+// compared: the answer, the ranges, the end, the report.
 use print::line;
 use print::text;
-use tp_stream::TpStream;
+use tp_words::WORDS;
 
 mod state; // state.rt: whether a stream is as recorded
 mod step; // step.rt: one record
 mod tally; // tally.rt: what agreed, counted and printed
 
-// What a record left: whether all agreed, and the stream.
-struct Turn {
-    agrees: bool,
-    stream: TpStream,
-}
-
-// The next record of the file, replayed, and counted where it agrees.
-fn next_turn(
+// The next record of the file: whether all agrees; it is counted if so.
+fn next_agrees(
     fd: i32,
     record: &mut [u8],
-    s: TpStream,
+    words: &mut [u32],
     buffer: &mut [u8],
     counts: &mut [u32],
-) -> Turn {
+) -> bool {
     let n = replay::next_record(fd, record);
     let bytes = &record[..n];
-    let stream = step::begun(bytes, s);
+    step::begun(bytes, words);
     // 16 plus the limit of the buffer's bytes are lent.
-    let lent = io::count((16 + stream.limit as usize) as isize, buffer);
-    let turn = step::replayed(bytes, stream, &mut buffer[..lent]);
-    if turn.agrees {
+    let limit = state::word(words, 0) as usize;
+    let lent = io::count((16 + limit) as isize, buffer);
+    let agrees = step::agrees(bytes, words, &mut buffer[..lent]);
+    if agrees {
         tally::add(bytes, counts);
     }
-    turn
+    agrees
 }
 
 // The first that does not agree: the one that there was, else this one, unless it agrees.
@@ -50,18 +46,16 @@ fn replay_all(
     fd: i32,
     total: u32,
     record: &mut [u8],
+    words: &mut [u32],
     buffer: &mut [u8],
     counts: &mut [u32],
 ) -> u32 {
-    let begun = tp_stream::begin(0);
-    let mut stream = begun.stream;
     let mut first: u32 = 0;
     let mut i: u32 = 0;
     while i < total {
-        let done = next_turn(fd, record, stream, buffer, counts);
-        stream = done.stream;
+        let agrees = next_agrees(fd, record, words, buffer, counts);
         i += 1;
-        first = earlier(first, done.agrees, i);
+        first = earlier(first, agrees, i);
     }
     first
 }
@@ -79,9 +73,10 @@ fn report(fd: i32) {
     let total = replay::number(&head, 0);
     line(b"records", total);
     let mut record = [0u8; 2048];
+    let mut words = [0u32; WORDS];
     let mut buffer = [0u8; 4112];
     let mut counts = [0u32; tally::PLACES];
-    let first = replay_all(fd, total, &mut record, &mut buffer, &mut counts);
+    let first = replay_all(fd, total, &mut record, &mut words, &mut buffer, &mut counts);
     tally::print(&counts);
     if first == 0 {
         text(b"none that does not\n");

@@ -1,34 +1,25 @@
-// Whether a stream is as a record says: complete, its end, its ranges as a set, and its report.
+// Whether a stream is as a record says: complete, its end, its ranges as a set, and its report. Its words hold the limit, how many ranges are
+// held, whether an end is known, the end, and the ranges.
+use hub::tp::viaductle_complete;
+use hub::tp::viaductle_take;
 use replay::check;
-use tp_machine::TpEnd;
-use tp_machine::TpRange;
 use tp_range::MAX_RANGES;
-use tp_stream::TpStream;
-use tp_stream::TpTaken;
 
-// A truth as the record has it.
-fn bit(b: bool) -> u32 {
-    if b {
-        return 1;
+// The word at a place; 0 past the end.
+pub(crate) fn word(words: &[u32], place: usize) -> u32 {
+    if place < words.len() {
+        return words[place];
     }
     0
 }
 
-// The end as the record has it: whether one is known, and which, or 0.
-fn end_agrees(record: &[u8], end: TpEnd) -> bool {
-    match end {
-        TpEnd::Unknown => check(record, 1) == 0 && check(record, 2) == 0,
-        TpEnd::Known(e) => check(record, 1) == 1 && check(record, 2) == e,
-    }
-}
-
 // Whether a range is among the first `count`.
-fn holds(ranges: [TpRange; MAX_RANGES], count: usize, start: u32, end: u32) -> bool {
-    let mut i: usize = 0;
-    while i < MAX_RANGES {
+fn holds(words: &[u32], count: u32, start: u32, end: u32) -> bool {
+    let mut i: u32 = 0;
+    while i < MAX_RANGES as u32 {
         if i < count {
-            let r = ranges[i];
-            if r.start == start && r.end == end {
+            let place = 4 + 2 * i as usize;
+            if word(words, place) == start && word(words, place + 1) == end {
                 return true;
             }
         }
@@ -38,48 +29,60 @@ fn holds(ranges: [TpRange; MAX_RANGES], count: usize, start: u32, end: u32) -> b
 }
 
 // Whether the ranges are the recorded ones. As many are held, and those recorded differ from each other, so it is enough that each is held.
-fn ranges_agree(record: &[u8], ranges: [TpRange; MAX_RANGES], count: usize) -> bool {
-    if check(record, 3) as usize != count {
+fn ranges_agree(record: &[u8], words: &[u32]) -> bool {
+    let count = word(words, 1);
+    if check(record, 3) != count {
         return false;
     }
     let mut i: u8 = 0;
-    while (i as usize) < MAX_RANGES {
-        if (i as usize) < count {
+    while i < MAX_RANGES as u8 {
+        if (i as u32) < count {
             let start = check(record, 7 + 2 * i);
             let end = check(record, 8 + 2 * i);
-            if !holds(ranges, count, start, end) {
+            if !holds(words, count, start, end) {
                 return false;
             }
         }
         i += 1;
     }
-    count <= MAX_RANGES
+    count <= MAX_RANGES as u32
+}
+
+// The first bytes of a buffer, none where it has not so many.
+fn front(buffer: &[u8], len: u64) -> &[u8] {
+    if (buffer.len() as u64) < len {
+        return &buffer[..0];
+    }
+    let n = len as usize;
+    &buffer[..n]
 }
 
 // Whether taking answers as recorded, and the report is the recorded one.
-fn report_agrees(record: &[u8], s: TpStream, buffer: &mut [u8]) -> bool {
-    let taken = tp_stream::take(s, buffer);
-    match taken {
-        TpTaken::Report(_) => {
-            let report = tp_stream::report(s, buffer);
-            check(record, 4) == 0
-                && check(record, 5) as usize == report.len()
-                && check(record, 6) == replay::add_bytes(0, report)
-        }
-        TpTaken::Refused(refusal) => {
-            let said = tp_numbers::numbers_of(refusal);
-            check(record, 4) == said.number as u32 && check(record, 5) == 0 && check(record, 6) == 0
-        }
+fn report_agrees(record: &[u8], words: &[u32], buffer: &mut [u8]) -> bool {
+    let taken = viaductle_take(words, buffer);
+    if check(record, 4) as u64 != taken.number {
+        return false;
     }
+    if taken.number != 0 {
+        return check(record, 5) == 0 && check(record, 6) == 0;
+    }
+    let values = taken.values;
+    check(record, 5) as u64 == values[0]
+        && check(record, 6) == replay::add_bytes(0, front(buffer, values[0]))
+}
+
+// Whether the stream is complete where the record says so.
+fn complete_agrees(record: &[u8], words: &[u32]) -> bool {
+    let answer = viaductle_complete(words);
+    let values = answer.values;
+    answer.number == 0 && check(record, 0) as u64 == values[0]
 }
 
 // Whether all that is recorded of the stream is so.
-pub(crate) fn agrees(record: &[u8], s: TpStream, buffer: &mut [u8]) -> bool {
-    let complete = check(record, 0) == bit(tp_stream::complete(s));
-    let known = s.end;
-    let end = end_agrees(record, known);
-    let held = s.ranges;
-    let ranges = ranges_agree(record, held, s.count);
-    let report = report_agrees(record, s, buffer);
+pub(crate) fn agrees(record: &[u8], words: &[u32], buffer: &mut [u8]) -> bool {
+    let complete = complete_agrees(record, words);
+    let end = check(record, 1) == word(words, 2) && check(record, 2) == word(words, 3);
+    let ranges = ranges_agree(record, words);
+    let report = report_agrees(record, words, buffer);
     complete && end && ranges && report
 }

@@ -1,12 +1,14 @@
 // One record: what is done to the stream, and whether all that is told then is as recorded.
-use crate::Turn;
-use crate::state::agrees;
-use refusal::Numbers;
+use crate::state;
+use hub::answers::Answer;
+use hub::tp::viaductle_begin;
+use hub::tp::viaductle_clear;
+use hub::tp::viaductle_consume;
+use replay::argument;
 use replay::byte;
+use replay::input;
 use replay::recorded;
 use replay::same;
-use tp_stream::TpAnswer;
-use tp_stream::TpStream;
 
 // The kinds of records.
 pub(crate) const BEGIN: u8 = 16;
@@ -15,66 +17,33 @@ pub(crate) const SEGMENT: u8 = 17;
 
 pub(crate) const CLEAR: u8 = 18;
 
-// The number and the values of an answer; number 0 for accepted.
-fn numbers_of(answer: TpAnswer) -> Numbers {
-    match answer {
-        TpAnswer::Accepted => Numbers {
-            number: 0,
-            count: 0,
-            values: [0, 0, 0, 0],
-        },
-        TpAnswer::Refused(refusal) => tp_numbers::numbers_of(refusal),
-    }
+// Whether an answer is the recorded one.
+fn told(record: &[u8], answer: Answer) -> bool {
+    let values = answer.values;
+    same(recorded(record), answer.number, values)
 }
 
-// The stream that a record is about: a fresh one of its limit, or the one that there was.
-pub(crate) fn begun(record: &[u8], s: TpStream) -> TpStream {
+// Where a record begins a stream, the words hold it.
+pub(crate) fn begun(record: &[u8], words: &mut [u32]) {
     if byte(record, 0) == BEGIN {
-        let step = tp_stream::begin(replay::argument(record, 0));
-        return step.stream;
+        viaductle_begin(words, argument(record, 0));
     }
-    s
 }
 
-// A segment comes, the stream is cleared, or it has begun.
-fn done(record: &[u8], s: TpStream, buffer: &mut [u8]) -> Turn {
+// A stream has begun, a segment comes, or the stream is cleared.
+fn answered(record: &[u8], words: &mut [u32], buffer: &mut [u8]) -> bool {
     let kind = byte(record, 0);
     match kind {
-        BEGIN => {
-            let step = tp_stream::begin(replay::argument(record, 0));
-            let answer = step.answer;
-            Turn {
-                agrees: same(recorded(record), numbers_of(answer)),
-                stream: s,
-            }
-        }
-        SEGMENT => {
-            let step = tp_stream::consume(s, replay::input(record), buffer);
-            let answer = step.answer;
-            let stream = step.stream;
-            Turn {
-                agrees: same(recorded(record), numbers_of(answer)),
-                stream,
-            }
-        }
-        CLEAR => Turn {
-            agrees: same(recorded(record), numbers_of(TpAnswer::Accepted)),
-            stream: tp_stream::clear(s),
-        },
-        _ => Turn {
-            agrees: false,
-            stream: s,
-        },
+        BEGIN => told(record, viaductle_begin(words, argument(record, 0))),
+        SEGMENT => told(record, viaductle_consume(words, input(record), buffer)),
+        CLEAR => told(record, viaductle_clear(words)),
+        _ => false,
     }
 }
 
 // One record replayed: its answer, and the stream after it.
-pub(crate) fn replayed(record: &[u8], s: TpStream, buffer: &mut [u8]) -> Turn {
-    let turn = done(record, s, buffer);
-    let stream = turn.stream;
-    let state = agrees(record, stream, buffer);
-    Turn {
-        agrees: turn.agrees && state,
-        stream,
-    }
+pub(crate) fn agrees(record: &[u8], words: &mut [u32], buffer: &mut [u8]) -> bool {
+    let answer = answered(record, words, buffer);
+    let stream = state::agrees(record, words, buffer);
+    answer && stream
 }

@@ -8,24 +8,6 @@ use borrow.Author.Needs.{needs}
 use Rattle.replay.proofs.counts.count.Statement.{statement}
 use Rattle.replay.proofs.counts.count.Tie as tie
 
-mul-one-more : tie.Need-mul-one-more
-mul-one-more c = search needs
-
-slice-read-one-more : tie.Need-slice-read-one-more
-slice-read-one-more c = search needs
-
-one-more-requires : tie.Need-one-more-requires
-one-more-requires c κs = search needs
-
-mul-counts : tie.Need-mul-counts
-mul-counts c = search needs
-
-slice-write-counts : tie.Need-slice-write-counts
-slice-write-counts c = search needs
-
-same-length : tie.Need-same-length
-same-length c = search needs
-
 returns : tie.Need-returns
 returns c =
     let a = c .before .before .before .before .args in
@@ -41,11 +23,11 @@ pub count-spec : {M : Type 1} → statement M
 count-spec =
     tie.close
     (tie.spec
-    mul-one-more
-    slice-read-one-more
-    one-more-requires
-    mul-counts
-    slice-write-counts
-    same-length
+    (λ c. search needs)
+    (λ c. search needs)
+    (λ c κs. search needs)
+    (λ c. search needs)
+    (λ c. search needs)
+    (λ c. search needs)
     returns
     returns-2)

@@ -7,27 +7,6 @@ use borrow.Author.Needs.{needs}
 use Rattle.replay.proofs.record.check.Statement.{statement}
 use Rattle.replay.proofs.record.check.Tie as tie
 
-byte-requires : tie.Need-byte-requires
-byte-requires c κs = search needs
-
-cast-word : tie.Need-cast-word
-cast-word c = search needs
-
-byte-requires-2 : tie.Need-byte-requires-2
-byte-requires-2 c κs = search needs
-
-cast-word-2 : tie.Need-cast-word-2
-cast-word-2 c = search needs
-
-add-word : tie.Need-add-word
-add-word c = search needs
-
-add-word-2 : tie.Need-add-word-2
-add-word-2 c = search needs
-
-word-requires : tie.Need-word-requires
-word-requires c κs = search needs
-
 returns : tie.Need-returns
 returns c =
     let a = c .before .before .before .before .args in
@@ -38,11 +17,11 @@ pub check-spec : {M : Type 1} → statement M
 check-spec =
     tie.close
     (tie.spec
-    byte-requires
-    cast-word
-    byte-requires-2
-    cast-word-2
-    add-word
-    add-word-2
-    word-requires
+    (λ c κs. search needs)
+    (λ c. search needs)
+    (λ c κs. search needs)
+    (λ c. search needs)
+    (λ c. search needs)
+    (λ c. search needs)
+    (λ c κs. search needs)
     returns)

@@ -1,5 +1,4 @@
--- `replay::record::value` meets its contract.
--- Assumes nothing.
+-- `replay::record::value` meets its contract. Assumes nothing.
 use mathlib.Core.Path.{ap, _∙_}
 use Prim.Native.Nat.{ℕ, _+_}
 use native.Mathlib.Omega.{arith}
@@ -8,24 +7,6 @@ use Rattle.replay.proofs.Laws.{value-there, value-past}
 use borrow.Author.Needs.{needs}
 use Rattle.replay.proofs.record.value.Statement.{statement}
 use Rattle.replay.proofs.record.value.Tie as tie
-
-byte-requires : tie.Need-byte-requires
-byte-requires c κs = search needs
-
-byte-requires-2 : tie.Need-byte-requires-2
-byte-requires-2 c κs = search needs
-
-cast-word : tie.Need-cast-word
-cast-word c = search needs
-
-add-word : tie.Need-add-word
-add-word c = search needs
-
-word-requires : tie.Need-word-requires
-word-requires c κs = search needs
-
-cast-result : tie.Need-cast-result
-cast-result c = search needs
 
 returns : tie.Need-returns
 returns c =
@@ -41,11 +22,11 @@ pub value-spec : {M : Type 1} → statement M
 value-spec =
     tie.close
     (tie.spec
-    byte-requires
-    byte-requires-2
-    cast-word
-    add-word
-    word-requires
-    cast-result
+    (λ c κs. search needs)
+    (λ c κs. search needs)
+    (λ c. search needs)
+    (λ c. search needs)
+    (λ c κs. search needs)
+    (λ c. search needs)
     returns
     returns-2)
