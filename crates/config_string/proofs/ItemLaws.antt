@@ -1,7 +1,7 @@
 -- One item at a place of a string: what the answer to it says of the string, and what a cursor finds there. Assumes nothing.
 use Prim.Native.Nat.{ℕ, _+_, _-_, _≤_, _<_}
 use mathlib.Core.Path.{_≡_, refl, sym, ap, _∙_}
-use mathlib.Core.List.{List, []}
+use mathlib.Core.List.{List}
 use native.Mathlib.Omega.{arith}
 use borrow.Author.Tests.{leb-false, le-leb, lt-leb, eqb-false, eq-eqb, ne-eqb}
 use lib.Dec.{leb, eqb}
@@ -9,19 +9,19 @@ use lib.ListN.{length, getD, take, drop, length-drop}
 use lib.Seq.{length-take-le}
 use Rattle.numbers.specs.Refusals.{Refusal, nothing-there}
 use Rattle.numbers.specs.Answers.{Answer, accepted, refused, pass, _>>_, given}
-use Rattle.numbers.proofs.AnswerLaws.{when-hit, when-pass, when-accepted, given-accepted, then-pass, then-accepted, accepted-inj, not-refused}
+use Rattle.numbers.proofs.AnswerLaws.{when-hit, when-pass, when-accepted, given-accepted, then-pass, then-accepted, accepted-inj}
 use Rattle.numbers.proofs.ByteLaws.{take-rest}
 use Rattle.sd_format.specs.Strings.{judge-item}
 use Rattle.sd_format.proofs.StringLaws.{item-passes}
-use Rattle.config_string.specs.declared.StringAnswer.{StringAnswer}
-use Rattle.config_string.specs.Answered.{answered}
-use Rattle.config_string.specs.Items.{next-item, past, part-of}
+use Rattle.refusal.specs.declared.answers.Verdict as code
+use Rattle.refusal.specs.Said.{verdict-said}
+use Rattle.config_string.specs.Items.{next-item, past}
 
 -- an item whose length byte `n` stands at `at`, with all that follows that byte
 module _ (s : List ℕ) (at n : ℕ) where
-  pub judged : {r a : StringAnswer} → answered r ≡ judge-item at n (take (length s - (at + 1)) (drop (at + 1) s)) → r ≡ a
-      → judge-item at n (drop (at + 1) s) ≡ answered a
-  judged ensured told = ap (judge-item at n) (sym (take-rest s (at + 1))) ∙ sym ensured ∙ ap answered told
+  pub judged : {r a : code.Verdict} → verdict-said r ≡ judge-item at n (take (length s - (at + 1)) (drop (at + 1) s)) → r ≡ a
+      → judge-item at n (drop (at + 1) s) ≡ verdict-said a
+  judged ensured told = ap (judge-item at n) (sym (take-rest s (at + 1))) ∙ sym ensured ∙ ap verdict-said told
 
   pub within : judge-item at n (drop (at + 1) s) ≡ pass → n ≤ length s - (at + 1)
   within good = simp length-drop at (item-passes at n (drop (at + 1) s) .0 good .0)
@@ -79,8 +79,3 @@ found s at next e =
       inside = omega arith;
       bytes = next-good s at inside (eqb-false _ _ (some .0)) (good .0) ∙ ap (λ (k : ℕ). accepted (take k rest)) (sym len);
     }
-
-pub no-part : (at : ℕ) (m : Answer (List ℕ)) (r : Refusal) → given (past at) m ≡ refused r → part-of m ≡ []
-unfolding given
-no-part at (accepted item) r e = not-refused r (past at item) (sym e)
-no-part at (refused q) r e = refl

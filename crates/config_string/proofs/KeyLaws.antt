@@ -13,7 +13,7 @@ use borrow.Author.Tests.{ne-eqb}
 use Rattle.numbers.specs.Refusals.{empty-key, invalid-key-byte, only-whitespace}
 use Rattle.numbers.specs.Answers.{Verdict, pass, refused, _>>_, refuse_when_else_}
 use Rattle.sd_format.specs.Strings.{key-of, judge-bytes, all-spaces, judge-key}
-use Rattle.config_string.specs.Answered.{key-byte, judge-end}
+use Rattle.config_string.specs.Keys.{key-byte, judge-end}
 
 -- the rest of a key, after `i` bytes of it that are no bad ones; `blank`: they are all spaces
 judge-rest : (item i : ℕ) → Bool → List ℕ → Verdict

@@ -1,14 +1,11 @@
 -- The items of a configuration string, one after the other. Assumes nothing: these are definitions.
 use Prim.Native.Nat.{ℕ, _+_}
-use mathlib.Core.List.{List, []}
+use mathlib.Core.List.{List}
 use lib.ListN.{length, getD, take, drop}
 use lib.Dec.{leb, eqb}
 use Rattle.numbers.specs.Refusals.{nothing-there}
-use Rattle.numbers.specs.Answers.{Answer, accepted, refused, _>>_, refuse_when_else_}
-use Rattle.refusal.specs.Said.{said}
+use Rattle.numbers.specs.Answers.{Answer, accepted, _>>_, refuse_when_else_}
 use Rattle.sd_format.specs.Strings.{judge-item}
-use Rattle.config_string.specs.declared.ItemAnswer.{ItemAnswer}
-use Rattle.config_string.specs.declared.ItemAnswer.the-variants.{Item, Refused}
 
 -- the item whose length byte stands at `at`: 20 with no bytes left and at the terminator, otherwise judged as in the reading of the string
 unfoldable pub next-item : List ℕ → (at : ℕ) → Answer (List ℕ)
@@ -21,12 +18,3 @@ next-item s at =
 -- where the cursor stands after that item
 abbrev pub past : (at : ℕ) → List ℕ → ℕ
 past at item = at + (1 + length item)
-
-abbrev pub item-said : ItemAnswer → Answer ℕ
-item-said (Item next) = accepted next
-item-said (Refused r) = refused (said r)
-
--- a refusal hands back an empty part
-abbrev pub part-of : Answer (List ℕ) → List ℕ
-part-of (accepted item) = item
-part-of (refused r) = []

@@ -1,19 +1,24 @@
 // The check of a configuration string: items of a length byte and that many bytes, closed by a zero length byte, which must be the last byte.
 // One function for each rule of document 01, all with the same answer; an item's bytes are looked at once, and no further than its key.
+// Below, `at` is the place of the item's length byte, which the errors give.
+use refusal::Count;
 use refusal::Refusal;
 use refusal::StringError;
+use refusal::Verdict;
 ghost use mathlib.Core.Path.{_≡_};
 ghost use mathlib.Core.Bool.{_&&_};
 ghost use lib.Dec.{eqb};
-ghost use Rattle.numbers.specs.Answers.{given, verdict};
+ghost use Rattle.numbers.specs.Answers.{refused, given, part, verdict};
+ghost use Rattle.refusal.specs.Said.{string-said, verdict-said, count-said};
 ghost use Rattle.sd_format.specs.Strings.{key-of, judge-key, judge-item, closed, read-string};
-ghost use Rattle.config_string.specs.Answered.{answered, key-byte, judge-end};
-ghost use Rattle.config_string.specs.Items.{next-item, past, item-said, part-of};
+ghost use Rattle.config_string.specs.Keys.{key-byte, judge-end};
+ghost use Rattle.config_string.specs.Items.{next-item, past};
 
-// What a string is found to be, and an item or a key of it. Below, `at` is the place of the item's length byte, which the errors give.
-pub enum StringAnswer {
-    Valid,
-    Refused(StringError),
+// A string refused by one of the six errors.
+fn refuse(error: StringError) -> Verdict
+    ensures { λ r. ⌜ verdict-said r ≡ refused (string-said error) ⌝ }
+{
+    Verdict::Refused(Refusal::ConfigurationString(error))
 }
 
 // Whether `b` may stand in a key.
@@ -37,21 +42,21 @@ fn still_blank(blank: bool, b: u8) -> bool
 }
 
 // A key that ends after `len` bytes, each of them in 0x20 to 0x7e: it is neither empty nor all spaces.
-fn check_end_of_key(at: usize, len: usize, blank: bool) -> StringAnswer
-    ensures { λ r. ⌜ answered r ≡ judge-end at len blank ⌝ }
+fn check_end_of_key(at: usize, len: usize, blank: bool) -> Verdict
+    ensures { λ r. ⌜ verdict-said r ≡ judge-end at len blank ⌝ }
 {
     if len == 0 {
-        return StringAnswer::Refused(StringError::EmptyKey { item_offset: at });
+        return refuse(StringError::EmptyKey { item_offset: at });
     }
     if blank {
-        return StringAnswer::Refused(StringError::KeyContainsOnlyWhitespace { item_offset: at });
+        return refuse(StringError::KeyContainsOnlyWhitespace { item_offset: at });
     }
-    StringAnswer::Valid
+    Verdict::Passed
 }
 
 // The key of an item, what precedes the first `=`: empty, first bad byte, all spaces.
-fn check_key(at: usize, item: &[u8]) -> StringAnswer
-    ensures { λ r. ⌜ answered r ≡ judge-key at (key-of (now (item .entry))) ⌝ }
+fn check_key(at: usize, item: &[u8]) -> Verdict
+    ensures { λ r. ⌜ verdict-said r ≡ judge-key at (key-of (now (item .entry))) ⌝ }
 {
     let mut blank = true;
     let mut i: usize = 0;
@@ -61,7 +66,7 @@ fn check_key(at: usize, item: &[u8]) -> StringAnswer
             return check_end_of_key(at, i, blank);
         }
         if !is_key_byte(b) {
-            return StringAnswer::Refused(StringError::InvalidKeyByte {
+            return refuse(StringError::InvalidKeyByte {
                 item_offset: at,
                 byte_offset: i,
                 value: b,
@@ -74,12 +79,12 @@ fn check_key(at: usize, item: &[u8]) -> StringAnswer
 }
 
 // An item, with what follows its length byte: it is no longer than that, then its key.
-fn check_item(at: usize, size: u8, rest: &[u8]) -> StringAnswer
-    ensures { λ r. ⌜ answered r ≡ judge-item at size (now (rest .entry)) ⌝ }
+fn check_item(at: usize, size: u8, rest: &[u8]) -> Verdict
+    ensures { λ r. ⌜ verdict-said r ≡ judge-item at size (now (rest .entry)) ⌝ }
 {
     let n = size as usize;
     if rest.len() < n {
-        return StringAnswer::Refused(StringError::ItemLengthExceedsRemaining {
+        return refuse(StringError::ItemLengthExceedsRemaining {
             item_offset: at,
             item_length: size,
             remaining: rest.len(),
@@ -89,20 +94,20 @@ fn check_item(at: usize, size: u8, rest: &[u8]) -> StringAnswer
 }
 
 // The terminator, with what follows it: nothing may.
-fn check_terminator(at: usize, rest: &[u8]) -> StringAnswer
-    ensures { λ r. ⌜ answered r ≡ verdict (closed at (now (rest .entry))) ⌝ }
+fn check_terminator(at: usize, rest: &[u8]) -> Verdict
+    ensures { λ r. ⌜ verdict-said r ≡ verdict (closed at (now (rest .entry))) ⌝ }
 {
     if rest.len() == 0 {
-        return StringAnswer::Valid;
+        return Verdict::Passed;
     }
-    StringAnswer::Refused(StringError::TrailingDataAfterTerminator {
+    refuse(StringError::TrailingDataAfterTerminator {
         terminator_offset: at,
     })
 }
 
 // A whole configuration string: its items from the front, up to the first that is refused, and the terminator.
-pub fn check_string(s: &[u8]) -> StringAnswer
-    ensures { λ r. ⌜ answered r ≡ verdict (read-string (now (s .entry))) ⌝ }
+pub fn check_string(s: &[u8]) -> Verdict
+    ensures { λ r. ⌜ verdict-said r ≡ verdict (read-string (now (s .entry))) ⌝ }
 {
     let mut at: usize = 0;
     while at < s.len() {
@@ -112,48 +117,41 @@ pub fn check_string(s: &[u8]) -> StringAnswer
             return check_terminator(at, &s[start..]);
         }
         let answer = check_item(at, size, &s[start..]);
-        let StringAnswer::Valid = answer else {
+        let Verdict::Passed = answer else {
             return answer;
         };
         at = start + size as usize;
     }
-    StringAnswer::Refused(StringError::MissingTerminator)
+    refuse(StringError::MissingTerminator)
 }
 
 // ---- a cursor over the items: a place in the string, in by value and back
 
-// The cursor stands behind the item that it found, or is refused and stays.
-pub enum ItemAnswer {
-    Item { next: usize },
-    Refused(Refusal),
-}
-
 // The item at a place of a string: where the next one stands; 20 at the terminator and with no bytes left.
-pub fn next_item(s: &[u8], at: usize) -> ItemAnswer
-    ensures { λ r. ⌜ item-said r ≡ given (past at) (next-item (now (s .entry)) at) ⌝ }
+pub fn next_item(s: &[u8], at: usize) -> Count
+    ensures { λ r. ⌜ count-said r ≡ given (past at) (next-item (now (s .entry)) at) ⌝ }
 {
     if s.len() <= at {
-        return ItemAnswer::Refused(Refusal::NothingThere);
+        return Count::Refused(Refusal::NothingThere);
     }
     let size = s[at];
     if size == 0 {
-        return ItemAnswer::Refused(Refusal::NothingThere);
+        return Count::Refused(Refusal::NothingThere);
     }
     let start = at + 1;
-    match check_item(at, size, &s[start..]) {
-        StringAnswer::Valid => ItemAnswer::Item {
-            next: start + size as usize,
-        },
-        StringAnswer::Refused(error) => ItemAnswer::Refused(Refusal::ConfigurationString(error)),
-    }
+    let answer = check_item(at, size, &s[start..]);
+    let Verdict::Passed = answer else {
+        return Count::Refused(answer.refusal());
+    };
+    Count::Good(start + size as usize)
 }
 
 // The bytes of that item, as a part of the string; none on a refusal.
 pub fn item_part(s: &[u8], at: usize) -> &[u8]
-    ensures { λ r. ⌜ now r ≡ part-of (next-item (now (s .entry)) at) ⌝ }
+    ensures { λ r. ⌜ now r ≡ part (next-item (now (s .entry)) at) ⌝ }
 {
     let answer = next_item(s, at);
-    let ItemAnswer::Item { next } = answer else {
+    let Count::Good(next) = answer else {
         return &s[..0];
     };
     let start = at + 1;

@@ -19,40 +19,24 @@ abbrev μ-loop : tie.MeasureT-loop
 loop-holds : tie.Need-loop-holds Inv-loop μ-loop
 loop-holds c = left-whole (c .before .args .at) (c .before .args .item .now)
 
-shared-slice-read-b : tie.Need-shared-slice-read-b Inv-loop μ-loop
-shared-slice-read-b c = search needs
-
-check-end-of-key-requires : tie.Need-check-end-of-key-requires Inv-loop μ-loop
-check-end-of-key-requires c κs = search needs
-
 returns : tie.Need-returns Inv-loop μ-loop
 returns c =
     let turn = c .before .before .before in
     let top = turn .before in
-    let start = top .before .before in
+    let args = top .before .before .args in
     c .check-end-of-key .ensures
-    ∙ sym (top .loop .inv ∙ left-equals (start .args .at) (start .args .item .now) (top .loop .i) (top .loop .blank) (turn .loop-test .taken) (c .before .if1 .taken))
-
-is-key-byte-requires : tie.Need-is-key-byte-requires Inv-loop μ-loop
-is-key-byte-requires c κs = search needs
+    ∙ sym (top .loop .inv ∙ left-equals (args .at) (args .item .now) (top .loop .i) (top .loop .blank) (turn .loop-test .taken) (c .before .if1 .taken))
 
 returns-2 : tie.Need-returns-2 Inv-loop μ-loop
 returns-2 c =
-    let other = c .before .before in
+    let bad = c .before in
+    let other = bad .before .before in
     let turn = other .before .before in
     let top = turn .before in
-    let start = top .before .before in
-    sym (top .loop .inv
-    ∙ left-bad (start .args .at) (start .args .item .now) (top .loop .i) (top .loop .blank) (turn .loop-test .taken) (other .if1 .left) (sym (c .before .is-key-byte .ensures) ∙ not-true _ (c .if2 .taken)))
-
-still-blank-requires : tie.Need-still-blank-requires Inv-loop μ-loop
-still-blank-requires c κs = search needs
-
-add-i : tie.Need-add-i Inv-loop μ-loop
-add-i c = search needs
-
-loop-less : tie.Need-loop-less Inv-loop μ-loop
-loop-less c = search needs
+    let args = top .before .before .args in
+    c .refuse .ensures
+    ∙ sym (top .loop .inv
+    ∙ left-bad (args .at) (args .item .now) (top .loop .i) (top .loop .blank) (turn .loop-test .taken) (other .if1 .left) (sym (bad .before .is-key-byte .ensures) ∙ not-true _ (bad .if2 .taken)))
 
 loop-again : tie.Need-loop-again Inv-loop μ-loop
 loop-again c =
@@ -60,20 +44,17 @@ loop-again c =
     let other = good .before .before in
     let turn = other .before .before in
     let top = turn .before in
-    let start = top .before .before in
+    let args = top .before .before .args in
     top .loop .inv
-    ∙ left-good (start .args .at) (start .args .item .now) (top .loop .i) (top .loop .blank) (turn .loop-test .taken) (other .if1 .left) (sym (good .before .is-key-byte .ensures) ∙ not-false _ (good .if2 .left))
-    ∙ ap (key-left (start .args .at) (start .args .item .now) _) (sym (c .still-blank .ensures))
-
-check-end-of-key-requires-2 : tie.Need-check-end-of-key-requires-2 Inv-loop μ-loop
-check-end-of-key-requires-2 c κs = search needs
+    ∙ left-good (args .at) (args .item .now) (top .loop .i) (top .loop .blank) (turn .loop-test .taken) (other .if1 .left) (sym (good .before .is-key-byte .ensures) ∙ not-false _ (good .if2 .left))
+    ∙ ap (key-left (args .at) (args .item .now) _) (sym (c .still-blank .ensures))
 
 returns-3 : tie.Need-returns-3 Inv-loop μ-loop
 returns-3 c =
     let top = c .before .before in
-    let start = top .before .before in
+    let args = top .before .before .args in
     c .check-end-of-key2 .ensures
-    ∙ sym (top .loop .inv ∙ left-end (start .args .at) (start .args .item .now) (top .loop .i) (top .loop .blank) (c .before .loop-test .left))
+    ∙ sym (top .loop .inv ∙ left-end (args .at) (args .item .now) (top .loop .i) (top .loop .blank) (c .before .loop-test .left))
 
 pub check-key-spec : {M : Type 1} → statement M
 check-key-spec =
@@ -82,14 +63,15 @@ check-key-spec =
     Inv-loop
     μ-loop
     loop-holds
-    shared-slice-read-b
-    check-end-of-key-requires
+    (λ c. search needs)
+    (λ c κs. search needs)
     returns
-    is-key-byte-requires
+    (λ c κs. search needs)
+    (λ c κs. search needs)
     returns-2
-    still-blank-requires
-    add-i
-    loop-less
+    (λ c κs. search needs)
+    (λ c. search needs)
+    (λ c. search needs)
     loop-again
-    check-end-of-key-requires-2
+    (λ c κs. search needs)
     returns-3)

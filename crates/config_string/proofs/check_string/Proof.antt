@@ -7,13 +7,12 @@ use native.Mathlib.Omega.{arith}
 use borrow.Author.Needs.{needs}
 use lib.ListN.{length, getD, drop}
 use Rattle.numbers.specs.Answers.{given, verdict}
-use Rattle.refusal.specs.Said.{string-said}
 use Rattle.numbers.proofs.ByteLaws.{take-rest}
+use Rattle.refusal.specs.declared.answers.Verdict.{Verdict}
+use Rattle.refusal.specs.declared.answers.Verdict.the-variants.{Passed}
+use Rattle.refusal.specs.Said.{said, verdict-said}
 use Rattle.sd_format.specs.Strings.{closed, judge-item, read-string}
 use Rattle.sd_format.proofs.StringLaws.{items-left, left-whole, left-end, left-terminator, left-refused, left-good}
-use Rattle.config_string.specs.declared.StringAnswer.{StringAnswer}
-use Rattle.config_string.specs.declared.StringAnswer.the-variants.{Valid}
-use Rattle.config_string.specs.Answered.{answered}
 use Rattle.config_string.proofs.ItemLaws.{judged, within}
 use Rattle.config_string.proofs.check_string.Statement.{statement}
 use Rattle.config_string.proofs.check_string.Tie as tie
@@ -27,24 +26,6 @@ abbrev μ-loop : tie.MeasureT-loop
 loop-holds : tie.Need-loop-holds Inv-loop μ-loop
 loop-holds c = ap verdict (left-whole (c .before .args .s .now))
 
-shared-slice-read-size : tie.Need-shared-slice-read-size Inv-loop μ-loop
-shared-slice-read-size c = search needs
-
-add-start : tie.Need-add-start Inv-loop μ-loop
-add-start c = search needs
-
-sub-check-terminator : tie.Need-sub-check-terminator Inv-loop μ-loop
-sub-check-terminator c = search needs
-
-part-check-terminator-start : tie.Need-part-check-terminator-start Inv-loop μ-loop
-part-check-terminator-start c = search needs
-
-part-check-terminator-end : tie.Need-part-check-terminator-end Inv-loop μ-loop
-part-check-terminator-end c = search needs
-
-check-terminator-requires : tie.Need-check-terminator-requires Inv-loop μ-loop
-check-terminator-requires c κs = search needs
-
 returns : tie.Need-returns Inv-loop μ-loop
 returns c =
     let last = c .before .before in
@@ -55,18 +36,6 @@ returns c =
     c .check-terminator .ensures
     ∙ ap (λ (rest : List ℕ). verdict (closed at rest)) (take-rest s (at + 1))
     ∙ sym (top .loop .inv ∙ ap verdict (left-terminator s at (turn .loop-test .taken) (last .if1 .taken)))
-
-sub-check-item : tie.Need-sub-check-item Inv-loop μ-loop
-sub-check-item c = search needs
-
-part-check-item-start : tie.Need-part-check-item-start Inv-loop μ-loop
-part-check-item-start c = search needs
-
-part-check-item-end : tie.Need-part-check-item-end Inv-loop μ-loop
-part-check-item-end c = search needs
-
-check-item-requires : tie.Need-check-item-requires Inv-loop μ-loop
-check-item-requires c κs = search needs
 
 -- what the item's answer says
 module _ (c : tie.After-check-item Inv-loop μ-loop) where
@@ -79,17 +48,11 @@ module _ (c : tie.After-check-item Inv-loop μ-loop) where
   abbrev at : ℕ
   at = turn .before .loop .at
 
-  item-judged : (a : StringAnswer) → c .check-item .result ≡ a → judge-item at (getD s at 0) (drop (at + 1) s) ≡ answered a
+  item-judged : (a : Verdict) → c .check-item .result ≡ a → judge-item at (getD s at 0) (drop (at + 1) s) ≡ verdict-said a
   item-judged a told = judged s at (getD s at 0) (c .check-item .ensures) told
 
-  item-within : c .check-item .result ≡ Valid → getD s at 0 ≤ length s - (at + 1)
-  item-within told = within s at (getD s at 0) (item-judged Valid told)
-
-enum-told : tie.Need-enum-told Inv-loop μ-loop
-enum-told c = search needs
-
-enum-told-2 : tie.Need-enum-told-2 Inv-loop μ-loop
-enum-told-2 c = search needs
+  item-within : c .check-item .result ≡ Passed → getD s at 0 ≤ length s - (at + 1)
+  item-within told = within s at (getD s at 0) (item-judged Passed told)
 
 returns-2 : tie.Need-returns-2 Inv-loop μ-loop
 unfolding given
@@ -97,18 +60,15 @@ returns-2 c =
     let item = c .before .before in
     let some = item .before .before .if1 .left in
     let told = c .enum-told2 .given in
-    ap answered (told .1)
+    ap verdict-said (told .1)
     ∙ sym (turn item .before .loop .inv
-    ∙ ap verdict (left-refused (s item) (at item) (turn item .loop-test .taken) some (string-said (told .0 .0)) (item-judged item _ (told .1))))
+    ∙ ap verdict (left-refused (s item) (at item) (turn item .loop-test .taken) some (said (told .0 .0)) (item-judged item _ (told .1))))
 
 cast-at : tie.Need-cast-at Inv-loop μ-loop
 cast-at c = omega (arith, item-within (c .before .before) (c .enum-told .given .1))
 
 add-at : tie.Need-add-at Inv-loop μ-loop
 add-at c = omega (arith, item-within (c .before .before) (c .enum-told .given .1))
-
-loop-less : tie.Need-loop-less Inv-loop μ-loop
-loop-less c = omega arith
 
 loop-again : tie.Need-loop-again Inv-loop μ-loop
 loop-again c =
@@ -119,8 +79,8 @@ loop-again c =
 returns-3 : tie.Need-returns-3 Inv-loop μ-loop
 unfolding given
 returns-3 c =
-    let top = c .before in
-    sym (top .loop .inv ∙ ap verdict (left-end (top .before .before .args .s .now) (top .loop .at) (c .loop-test .left)))
+    let top = c .before .before in
+    c .refuse .ensures ∙ sym (top .loop .inv ∙ ap verdict (left-end (top .before .before .args .s .now) (top .loop .at) (c .before .loop-test .left)))
 
 pub check-string-spec : {M : Type 1} → statement M
 check-string-spec =
@@ -129,22 +89,23 @@ check-string-spec =
     Inv-loop
     μ-loop
     loop-holds
-    shared-slice-read-size
-    add-start
-    sub-check-terminator
-    part-check-terminator-start
-    part-check-terminator-end
-    check-terminator-requires
+    (λ c. search needs)
+    (λ c. search needs)
+    (λ c. search needs)
+    (λ c. search needs)
+    (λ c. search needs)
+    (λ c κs. search needs)
     returns
-    sub-check-item
-    part-check-item-start
-    part-check-item-end
-    check-item-requires
-    enum-told
-    enum-told-2
+    (λ c. search needs)
+    (λ c. search needs)
+    (λ c. search needs)
+    (λ c κs. search needs)
+    (λ c. search needs)
+    (λ c. search needs)
     returns-2
     cast-at
     add-at
-    loop-less
+    (λ c. omega arith)
     loop-again
+    (λ c κs. search needs)
     returns-3)
