@@ -1,22 +1,28 @@
 -- What the proofs of this crate's functions cite: how the definitions of one entry go, one step at a time. Assumes nothing.
 use Prim.Native.Nat.{ℕ, _+_, _*_, _/_, _%_, _-_, _≤_, _<_}
 use mathlib.Core.Path.{_≡_, refl, sym, ap, _∙_}
-use mathlib.Core.Bool.{Bool, true, false, not}
+use mathlib.Core.Bool.{Bool, true, false}
 use mathlib.Core.Logic.{_⊎_, inl, inr, ⊎-elim}
 use mathlib.Core.List.{List}
 use native.Mathlib.Omega.{arith}
 use lib.ListN.{length, take, drop, getD, length-take, length-drop}
 use lib.Seq.{take-all}
-use lib.Dec.{eqb, leb}
-use borrow.Author.Tests.{ltb-false, eqb-true, eqb-false, lt-ltb, le-ltb, le-leb, lt-leb, eq-eqb, ne-eqb}
-use Rattle.numbers.specs.Refusals.{Refusal, unexpected-end, unknown-entry, run-out-of-bounds, nothing-there}
-use Rattle.numbers.specs.Answers.{Answer, accepted, refused, Verdict, pass, _>>=_, _>>_, given, verdict}
+use lib.Dec.{eqb}
+use borrow.Author.Tests.{ltb-false, eqb-true, eqb-false, lt-ltb, le-ltb, le-leb, lt-leb, ne-eqb}
+use Rattle.numbers.specs.Refusals.{Refusal, unexpected-end, unknown-entry, run-out-of-bounds}
+use Rattle.numbers.specs.Answers.{Answer, accepted, refused, Verdict, _>>=_, _>>_, given, verdict}
 use Rattle.numbers.specs.Bytes.{at16, at24, at32}
-use Rattle.numbers.proofs.AnswerLaws.{when-hit, when-pass, when-accepted, bind-pass}
+use Rattle.numbers.proofs.AnswerLaws.{when-hit, when-pass, when-accepted, bind-pass, then-pass}
 use Rattle.sd_format.specs.Sequences.{next-at, behind, stands}
 use Rattle.sd_format.specs.Options.{has}
-use Rattle.sd_format.specs.Entries.{Head, Group, Entry, find, offer, subscribe, subscribe-ack, head-of, head, group, minor, by-type, read-entry, sixteen, next-entry, inside, judge-runs, placed-entry}
-use Rattle.sd_entry.specs.Said.{head-said, entry-said, answer-said, only-runs}
+use Rattle.sd_format.specs.Entries.{Head, Group, Entry, find, offer, subscribe, subscribe-ack, head-of, head, group, minor, by-type, read-entry, sixteen, next-entry, inside, judge-run, judge-runs, placed-entry}
+use Rattle.sd_format.proofs.EntryLaws.{runs-of}
+use Rattle.refusal.specs.Said.{verdict-said}
+use Rattle.refusal.specs.declared.Refusal as code
+use Rattle.refusal.specs.declared.Refusal.the-variants.{NothingThere}
+use Rattle.refusal.specs.declared.answers.Verdict as judged
+use Rattle.refusal.specs.declared.answers.Verdict.the-variants.{Passed, Refused}
+use Rattle.sd_entry.specs.Said.{head-said, entry-said, answer-said}
 use Rattle.sd_entry.specs.Steps.{Stepped}
 use Rattle.sd_entry.specs.declared.SdServiceEntryType.the-variants.{FindService, OfferService}
 use Rattle.sd_entry.specs.declared.EventGroupEntryType.the-variants.{SubscribeOrStop, SubscribeAckOrNack}
@@ -24,7 +30,7 @@ use Rattle.sd_entry.specs.declared.EntryHead.{EntryHead}
 use Rattle.sd_entry.specs.declared.SdEntry.{SdEntry}
 use Rattle.sd_entry.specs.declared.SdEntry.the-variants.{Service, Eventgroup}
 use Rattle.sd_entry.specs.declared.EntryAnswer.{EntryAnswer}
-use Rattle.sd_entry.specs.declared.EntryAnswer.the-variants.{Good}
+use Rattle.sd_entry.specs.declared.EntryAnswer.the-variants as answer
 
 -- ---- the fields, from the numbers that the bytes make
 
@@ -124,33 +130,19 @@ head-field-said {e} this = ap (λ (x : SdEntry). head-said (head-field x)) (sym 
 
 -- ---- the runs' rule
 
-module _ (n start count : ℕ) where
-  pub run-empty : count ≡ 0 → inside n start count ≡ true
-  unfolding inside
-  run-empty e = rw (eq-eqb count 0 e)
+pub run-out : (run n start count : ℕ) → (count ≡ 0 → ⊥) → n < start + count → judge-run run n start count ≡ refused (run-out-of-bounds run start count n)
+unfolding judge-run inside
+run-out run n start count some past = when-hit _ _ _ (rw (ne-eqb count 0 some, lt-leb (start + count) n past))
 
-  pub run-held : (count ≡ 0 → ⊥) → inside n start count ≡ leb (start + count) n
-  unfolding inside
-  run-held e = rw (ne-eqb count 0 e)
+-- run 1's verdict is that of both where it refuses; where it passes, run 2's is
+module _ (n start1 count1 start2 count2 : ℕ) {v : judged.Verdict} (first : verdict-said v ≡ judge-run 1 n start1 count1) where
+  pub run-1-refused : {r : code.Refusal} → v ≡ Refused r → verdict-said v ≡ judge-runs n start1 count1 start2 count2
+  unfolding judge-runs _>>_
+  run-1-refused this = rw (← first, this)
 
-module _ (n : ℕ) (h : Head) where
-  pub run-1-out : inside n (h .start1) (h .count1) ≡ false → judge-runs n h ≡ refused (run-out-of-bounds 1 (h .start1) (h .count1) n)
+  pub run-1-passed : v ≡ Passed → judge-runs n start1 count1 start2 count2 ≡ judge-run 2 n start2 count2
   unfolding judge-runs
-  run-1-out e = when-hit _ _ _ (ap not e)
-
-  pub run-2-out : inside n (h .start1) (h .count1) ≡ true → inside n (h .start2) (h .count2) ≡ false
-      → judge-runs n h ≡ refused (run-out-of-bounds 2 (h .start2) (h .count2) n)
-  unfolding judge-runs
-  run-2-out e f = when-pass _ _ _ (ap not e) ∙ when-hit _ _ _ (ap not f)
-
-  pub runs-in : inside n (h .start1) (h .count1) ≡ true → inside n (h .start2) (h .count2) ≡ true → judge-runs n h ≡ pass
-  unfolding judge-runs
-  runs-in e f = when-pass _ _ _ (ap not e) ∙ when-pass _ _ _ (ap not f)
-
--- only the runs of a head are judged
-pub same-runs : (n : ℕ) (h k : Head) → h .start1 ≡ k .start1 → h .start2 ≡ k .start2 → h .count1 ≡ k .count1 → h .count2 ≡ k .count2 → judge-runs n h ≡ judge-runs n k
-unfolding judge-runs
-same-runs n h k p q r t = rw (p, q, r, t)
+  run-1-passed this = then-pass _ _ (sym first ∙ ap verdict-said this)
 
 -- ---- an entry beside `n` options
 
@@ -158,14 +150,6 @@ verdict-then : {A : Type 0} (v : Verdict) (a : A) → verdict (v >> accepted a) 
 unfolding _>>_ given
 verdict-then (accepted u) a = refl
 verdict-then (refused r) a = refl
-
-pub placed-refused : (n : ℕ) (s : List ℕ) (r : Refusal) → read-entry s ≡ refused r → verdict (placed-entry n s) ≡ refused r
-unfolding placed-entry _>>=_ given
-placed-refused n s r p = rw p
-
-placed-read : (n : ℕ) (s : List ℕ) (e : Entry) → read-entry s ≡ accepted e → verdict (placed-entry n s) ≡ judge-runs n (head-of e)
-unfolding placed-entry
-placed-read n s e p = ap verdict (bind-pass (read-entry s) _ e p) ∙ verdict-then (judge-runs n (head-of e)) e
 
 -- a number of a pair is one or the other
 one-of-two : (low t : ℕ) → low ≤ t → t < 2 + low → (t ≡ low) ⊎ (t ≡ 1 + low)
@@ -175,44 +159,51 @@ one-of-two low t a b = go (eqb t low) refl
     go true e = inl (eqb-true t low e)
     go false e = let d = eqb-false t low e in inr (omega arith)
 
-placed-known : (n : ℕ) (s : List ℕ) → 16 ≤ length s → (getD s 0 0 < 2) ⊎ ((6 ≤ getD s 0 0) × (getD s 0 0 < 8)) → verdict (placed-entry n s) ≡ judge-runs n (head s)
-placed-known n s h known =
-    let t = getD s 0 0 in
-    let r = read-typed s h in
-    ⊎-elim
-    (λ low. ⊎-elim (λ e. placed-read n s _ (r ∙ is-find s t e)) (λ e. placed-read n s _ (r ∙ is-offer s t e)) (one-of-two 0 t (omega arith) low))
-    (λ high. ⊎-elim (λ e. placed-read n s _ (r ∙ is-subscribe s t e)) (λ e. placed-read n s _ (r ∙ is-subscribe-ack s t e)) (one-of-two 6 t (high .0) (high .1)))
-    known
+module _ (n : ℕ) (s : List ℕ) where
+  pub placed-refused : (r : Refusal) → read-entry s ≡ refused r → verdict (placed-entry n s) ≡ refused r
+  unfolding placed-entry _>>=_ given
+  placed-refused r p = rw p
 
--- the runs as the code takes them from the bytes
-pub placed-judged : (n : ℕ) (s : List ℕ) {v : Verdict} → 16 ≤ length s → (getD s 0 0 < 2) ⊎ ((6 ≤ getD s 0 0) × (getD s 0 0 < 8))
-    → v ≡ judge-runs n (only-runs (getD s 1 0) (getD s 2 0) (getD s 3 0 / 16) (getD s 3 0 % 16)) → v ≡ verdict (placed-entry n s)
-unfolding head
-placed-judged n s h known judged = judged ∙ same-runs n _ (head s) refl refl refl refl ∙ sym (placed-known n s h known)
+  placed-read : (e : Entry) → read-entry s ≡ accepted e → verdict (placed-entry n s) ≡ runs-of n (head-of e)
+  unfolding placed-entry
+  placed-read e p = ap verdict (bind-pass (read-entry s) _ e p) ∙ verdict-then (runs-of n (head-of e)) e
+
+  pub placed-known : 16 ≤ length s → (getD s 0 0 < 2) ⊎ ((6 ≤ getD s 0 0) × (getD s 0 0 < 8))
+      → verdict (placed-entry n s) ≡ judge-runs n (getD s 1 0) (getD s 3 0 / 16) (getD s 2 0) (getD s 3 0 % 16)
+  unfolding head
+  placed-known h known =
+      let t = getD s 0 0 in
+      let r = read-typed s h in
+      ⊎-elim
+      (λ low. ⊎-elim (λ e. placed-read _ (r ∙ is-find s t e)) (λ e. placed-read _ (r ∙ is-offer s t e)) (one-of-two 0 t (omega arith) low))
+      (λ high. ⊎-elim (λ e. placed-read _ (r ∙ is-subscribe s t e)) (λ e. placed-read _ (r ∙ is-subscribe-ack s t e)) (one-of-two 6 t (high .0) (high .1)))
+      known
 
 -- ---- the cursor
 
-module _ (s : List ℕ) (at : ℕ) where
-  pub next-ended : length s ≤ at → next-entry s at ≡ refused nothing-there
-  unfolding next-at
-  next-ended h = when-hit _ _ _ (le-leb (length s) at h)
-
-  -- what is left of the bytes, as the code has it
-  pub next-within : at < length s → next-entry s at ≡ read-entry (take (length s - at) (drop at s))
-  unfolding next-at
-  next-within h =
-      let left : length (drop at s) ≤ length s - at = omega (arith, length-drop at s) in
-      when-pass _ _ _ (lt-leb (length s) at h) ∙ ap read-entry (sym (take-all (length s - at) (drop at s) left))
-
--- a step: the answer, and where the cursor stands by it
-pub stepped : (s : List ℕ) (at : ℕ) (a : EntryAnswer) {place : ℕ} → answer-said a ≡ next-entry s at → place ≡ stands (behind sixteen) (answer-said a) at
+-- a step: the answer `a`, known to be `here`, and where the cursor stands by it
+stepped : (s : List ℕ) (at place : ℕ) {a here : EntryAnswer} → answer-said a ≡ next-entry s at → a ≡ here → place ≡ stands (behind sixteen) (answer-said here) at
     → Stepped s at (record { answer = a; cursor = record { at = place } })
-stepped s at a answer place = record { answer = answer; cursor = place ∙ ap (λ (x : Answer Entry). stands (behind sixteen) x at) answer }
+stepped s at place {a} answer this stood =
+    record { answer = answer; cursor = stood ∙ ap (λ (x : Answer Entry). stands (behind sixteen) x at) (sym (ap answer-said this) ∙ answer) }
 
--- a cursor that handed out an entry still stands within the bytes or at their end
-pub step-fits : (s : List ℕ) (at : ℕ) (a : EntryAnswer) (e : SdEntry) → answer-said a ≡ read-entry (take (length s - at) (drop at s)) → a ≡ Good e
-    → at < length s → at + 16 ≤ length s
-step-fits s at a e read this within =
-    let left : length (take (length s - at) (drop at s)) ≤ length s - at = omega (arith, length-take (length s - at) (drop at s)) in
-    let long = read-long (take (length s - at) (drop at s)) (entry-said e) (sym read ∙ ap answer-said this) in
-    omega arith
+pub step-ended : (s : List ℕ) (at : ℕ) → length s ≤ at
+    → Stepped s at (record { answer = answer.Refused NothingThere; cursor = record { at = at } })
+unfolding next-at
+step-ended s at h = stepped s at at (sym (when-hit _ _ _ (le-leb (length s) at h))) refl refl
+
+-- within the bytes, of which the code reads what is left
+module _ (s : List ℕ) (at : ℕ) (within : at < length s) {a here : EntryAnswer} (read : answer-said a ≡ read-entry (take (length s - at) (drop at s))) (this : a ≡ here) where
+  pub step-within : {place : ℕ} → place ≡ stands (behind sixteen) (answer-said here) at → Stepped s at (record { answer = a; cursor = record { at = place } })
+  unfolding next-at
+  step-within {place} stood =
+      let left : length (drop at s) ≤ length s - at = omega (arith, length-drop at s) in
+      let same = when-pass _ _ _ (lt-leb (length s) at within) ∙ ap read-entry (sym (take-all (length s - at) (drop at s) left)) in
+      stepped s at place (read ∙ sym same) this stood
+
+  -- where an entry was handed out, the cursor still stands within the bytes or at their end
+  pub step-fits : {e : SdEntry} → here ≡ answer.Good e → at + 16 ≤ length s
+  step-fits {e} good =
+      let left : length (take (length s - at) (drop at s)) ≤ length s - at = omega (arith, length-take (length s - at) (drop at s)) in
+      let long = read-long (take (length s - at) (drop at s)) (entry-said e) (sym read ∙ ap answer-said (this ∙ good)) in
+      omega arith

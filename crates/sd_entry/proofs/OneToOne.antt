@@ -1,14 +1,15 @@
--- Each promise of this crate allows one outcome: the code's entries, answers and verdicts are kept apart by what is said of them.
+-- Each promise of this crate allows one outcome: the code's entries and answers are kept apart by what is said of them.
 -- Assumes nothing.
 use Prim.Native.Nat.{ℕ}
 use mathlib.Core.Path.{_≡_, refl, sym, ap, _∙_}
 use mathlib.Core.List.{List}
-use Rattle.numbers.specs.Refusals.{Refusal}
-use Rattle.numbers.specs.Answers.{Answer, accepted, refused, Verdict, verdict}
+use Rattle.numbers.specs.Answers.{verdict}
 use Rattle.numbers.proofs.AnswerLaws.{accepted-inj, not-refused}
-use Rattle.sd_format.specs.Entries.{Head, Group, Entry, find, offer, subscribe, subscribe-ack, head-of, read-entry, judge-runs, placed-entry}
-use Rattle.refusal.proofs.OneToOne.{one-to-one}
-use Rattle.sd_entry.specs.Said.{head-said, group-said, entry-said, answer-said, verdict-said}
+use Rattle.sd_format.specs.Entries.{Head, Group, Entry, find, offer, subscribe, subscribe-ack, head-of, read-entry, placed-entry}
+use Rattle.refusal.specs.Said.{verdict-said}
+use Rattle.refusal.specs.declared.answers.Verdict.{Verdict}
+use Rattle.refusal.proofs.OneToOne.{same-refusal, verdict-one-to-one}
+use Rattle.sd_entry.specs.Said.{head-said, entry-said, answer-said}
 use Rattle.sd_entry.specs.Steps.{Stepped}
 use Rattle.sd_entry.specs.declared.SdServiceEntryType.the-variants.{FindService, OfferService}
 use Rattle.sd_entry.specs.declared.EventGroupEntryType.the-variants.{SubscribeOrStop, SubscribeAckOrNack}
@@ -18,8 +19,6 @@ use Rattle.sd_entry.specs.declared.SdEntry.{SdEntry}
 use Rattle.sd_entry.specs.declared.SdEntry.the-variants.{Service, Eventgroup}
 use Rattle.sd_entry.specs.declared.EntryAnswer.{EntryAnswer}
 use Rattle.sd_entry.specs.declared.EntryAnswer.the-variants.{Good, Refused}
-use Rattle.sd_entry.specs.declared.runs.EntryVerdict.{EntryVerdict}
-use Rattle.sd_entry.specs.declared.runs.EntryVerdict.the-variants as judged
 use Rattle.sd_entry.specs.declared.cursor.EntryCursor.{EntryCursor}
 use Rattle.sd_entry.specs.declared.cursor.EntryStep.{EntryStep}
 
@@ -70,20 +69,11 @@ head-one-to-one x y same = ap head-back same
 pub entry-one-to-one : (x y : SdEntry) → entry-said x ≡ entry-said y → x ≡ y
 entry-one-to-one x y same = sym (back x) ∙ ap entry-back same ∙ back y
 
-refused-inj : {A : Type 0} (r q : Refusal) → _≡_ {A = Answer A} (refused r) (refused q) → r ≡ q
-refused-inj r q e = cc
-
 pub answer-one-to-one : (x y : EntryAnswer) → answer-said x ≡ answer-said y → x ≡ y
 answer-one-to-one (Good d) (Good e) same = ap Good (entry-one-to-one d e (accepted-inj _ _ same))
 answer-one-to-one (Good d) (Refused q) same = not-refused _ _ (sym same)
 answer-one-to-one (Refused r) (Good e) same = not-refused _ _ same
-answer-one-to-one (Refused r) (Refused q) same = ap Refused (one-to-one r q (refused-inj _ _ same))
-
-pub verdict-one-to-one : (x y : EntryVerdict) → verdict-said x ≡ verdict-said y → x ≡ y
-verdict-one-to-one judged.Passed judged.Passed same = refl
-verdict-one-to-one judged.Passed (judged.Refused q) same = not-refused _ _ (sym same)
-verdict-one-to-one (judged.Refused r) judged.Passed same = not-refused _ _ same
-verdict-one-to-one (judged.Refused r) (judged.Refused q) same = ap judged.Refused (one-to-one r q (refused-inj _ _ same))
+answer-one-to-one (Refused r) (Refused q) same = ap Refused (same-refusal r q same)
 
 -- ---- any two outcomes that a promise allows are the same
 
@@ -93,10 +83,7 @@ read-entry-only s x y p q = answer-one-to-one x y (p ∙ sym q)
 pub head-only : (e : SdEntry) (x y : EntryHead) → head-said x ≡ head-of (entry-said e) → head-said y ≡ head-of (entry-said e) → x ≡ y
 head-only e x y p q = head-one-to-one x y (p ∙ sym q)
 
-pub judge-runs-only : (n : ℕ) (h : EntryHead) (x y : EntryVerdict) → verdict-said x ≡ judge-runs n (head-said h) → verdict-said y ≡ judge-runs n (head-said h) → x ≡ y
-judge-runs-only n h x y p q = verdict-one-to-one x y (p ∙ sym q)
-
-pub judge-entry-only : (n : ℕ) (s : List ℕ) (x y : EntryVerdict) → verdict-said x ≡ verdict (placed-entry n s) → verdict-said y ≡ verdict (placed-entry n s) → x ≡ y
+pub judge-entry-only : (n : ℕ) (s : List ℕ) (x y : Verdict) → verdict-said x ≡ verdict (placed-entry n s) → verdict-said y ≡ verdict (placed-entry n s) → x ≡ y
 judge-entry-only n s x y p q = verdict-one-to-one x y (p ∙ sym q)
 
 pub next-only : (s : List ℕ) (at : ℕ) (x y : EntryStep) → Stepped s at x → Stepped s at y → x ≡ y

@@ -1,2 +1,3 @@
+pub mod ByName
 pub mod Said
 pub mod Steps

@@ -1,6 +1,6 @@
 -- The code's entries and answers as those of the definitions. Assumes nothing: these are definitions.
 use Prim.Native.Nat.{ℕ}
-use Rattle.numbers.specs.Answers.{Answer, accepted, refused, Verdict, pass}
+use Rattle.numbers.specs.Answers.{Answer, accepted, refused}
 use Rattle.sd_format.specs.Entries.{Head, Group, Entry, find, offer, subscribe, subscribe-ack}
 use Rattle.refusal.specs.Said.{said}
 use Rattle.sd_entry.specs.declared.SdServiceEntryType.{SdServiceEntryType}
@@ -13,8 +13,6 @@ use Rattle.sd_entry.specs.declared.SdEntry.{SdEntry}
 use Rattle.sd_entry.specs.declared.SdEntry.the-variants.{Service, Eventgroup}
 use Rattle.sd_entry.specs.declared.EntryAnswer.{EntryAnswer}
 use Rattle.sd_entry.specs.declared.EntryAnswer.the-variants.{Good, Refused}
-use Rattle.sd_entry.specs.declared.runs.EntryVerdict.{EntryVerdict}
-use Rattle.sd_entry.specs.declared.runs.EntryVerdict.the-variants as judged
 
 abbrev pub head-said : EntryHead → Head
 head-said h =
@@ -54,12 +52,3 @@ entry-said (Eventgroup type h g) = eventgroup-said type (head-said h) (group-sai
 abbrev pub answer-said : EntryAnswer → Answer Entry
 answer-said (Good e) = accepted (entry-said e)
 answer-said (Refused r) = refused (said r)
-
-abbrev pub verdict-said : EntryVerdict → Verdict
-verdict-said judged.Passed = pass
-verdict-said (judged.Refused r) = refused (said r)
-
--- a head of two runs alone
-abbrev pub only-runs : (start1 start2 count1 count2 : ℕ) → Head
-only-runs start1 start2 count1 count2 =
-    record { start1 = start1; start2 = start2; count1 = count1; count2 = count2; service = 0; instance = 0; major = 0; ttl = 0 }

@@ -6,9 +6,7 @@ mod runs;
 pub use cursor::EntryCursor;
 pub use cursor::EntryStep;
 use refusal::Refusal;
-pub use runs::EntryVerdict;
 pub use runs::judge_entry;
-pub use runs::judge_runs;
 ghost use mathlib.Core.Path.{_≡_};
 ghost use Prim.Native.Nat.{_≤_};
 ghost use lib.ListN.{length};
@@ -18,6 +16,12 @@ ghost use Rattle.sd_entry.specs.Said.{head-said, group-said, entry-said,
 
 // The bytes of an entry.
 pub const ENTRY_LEN: usize = 16;
+
+// The bit of an eventgroup entry that asks for the initial data.
+const INITIAL_DATA: u8 = 0x80;
+
+// A number of four bits is below it.
+pub(crate) const FOUR_BITS: u8 = 16;
 
 pub enum SdServiceEntryType {
     FindService,
@@ -77,8 +81,8 @@ fn head_of(s: &[u8]) -> EntryHead
     EntryHead {
         start_index_options_1: s[1],
         start_index_options_2: s[2],
-        number_of_options_1: counts / 16,
-        number_of_options_2: counts % 16,
+        number_of_options_1: counts / FOUR_BITS,
+        number_of_options_2: counts % FOUR_BITS,
         service_id: big_endian::be16(s[4], s[5]),
         instance_id: big_endian::be16(s[6], s[7]),
         major_version: s[8],
@@ -94,9 +98,9 @@ fn group_of(s: &[u8]) -> EventGroup
     let bits = s[13];
     EventGroup {
         reserved: s[12],
-        initial_data_requested: bits / 0x80 % 2 == 1,
-        spare: bits / 16 % 8,
-        counter: bits % 16,
+        initial_data_requested: bits / INITIAL_DATA % 2 == 1,
+        spare: bits / FOUR_BITS % 8,
+        counter: bits % FOUR_BITS,
         eventgroup_id: big_endian::be16(s[14], s[15]),
     }
 }

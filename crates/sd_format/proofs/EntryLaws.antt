@@ -39,7 +39,7 @@ run-inside n start count = (split (eqb count 0) refl, ⊎-elim (λ z. rw (eq-eqb
     either true t = refl
     either false t = t
 
-run-fits : (run n start count : ℕ) → (judge-run run n start count ≡ pass) ↔ RunFits n start count
+pub run-fits : (run n start count : ℕ) → (judge-run run n start count ≡ pass) ↔ RunFits n start count
 unfolding judge-run
 run-fits run n start count =
     let inside-fits = run-inside n start count in

@@ -4,12 +4,6 @@ use Rattle.sd_entry.proofs.Laws.{head-field-said}
 use Rattle.sd_entry.proofs.SdEntry.head.Statement.{statement}
 use Rattle.sd_entry.proofs.SdEntry.head.Tie as tie
 
-enum-known-self : tie.Need-enum-known-self
-enum-known-self c = search needs
-
-enum-known-self-2 : tie.Need-enum-known-self-2
-enum-known-self-2 c = search needs
-
 returns : tie.Need-returns
 returns c = head-field-said (c .before .self .given .1)
 
@@ -17,4 +11,10 @@ returns-2 : tie.Need-returns-2
 returns-2 c = head-field-said (c .before .self2 .given .1)
 
 pub head-spec : {M : Type 1} → statement M
-head-spec = tie.close (tie.spec enum-known-self enum-known-self-2 returns returns-2)
+head-spec =
+    tie.close
+    (tie.spec
+    (λ c. search needs)
+    (λ c. search needs)
+    returns
+    returns-2)
