@@ -1,17 +1,18 @@
 -- What is promised of the options part and of one option. Assumes nothing: these are definitions.
-use Prim.Native.Nat.{ℕ}
+use Prim.Native.Nat.{ℕ, _-_}
 use mathlib.Core.Path.{_≡_}
 use mathlib.Core.Bool.{cond}
 use mathlib.Core.List.{List, []}
 use lib.ListN.{length}
 use Rattle.numbers.specs.Answers.{given}
 use Rattle.numbers.specs.Answers as paper
+use Rattle.sd_format.specs.Options.{First, Opt, configuring, balancing, addressed, unrecognised}
 use Rattle.sd_format.specs.Frames.{read-option, lent, table-after, read-index}
-use Rattle.sd_format.specs.Fields.{asked, of-address, of-load-balancing, of-configuration, discardable, address-bytes, protocol, port, priority, weight, string}
-use Rattle.sd_field.specs.Fields.{size-asked}
-use Rattle.sd_option.specs.Reading.{Head, head-of}
+use Rattle.sd_format.specs.Layout.{lay-type, address-length}
+use Rattle.sd_field.specs.Fields.{Decoded, decoded}
 use Rattle.hub.specs.declared.answers.Answer.{Answer}
 use Rattle.hub.specs.declared.options.Option.{Option}
+use Rattle.hub.specs.declared.options.Span.{Span}
 use Rattle.hub.specs.Answers.{row, refusal-row, told, one-value}
 
 -- the index: how many options there are, and the lent table after it
@@ -21,33 +22,38 @@ pub record Indexes (s tab : List ℕ) (r : Answer) (tab′ : List ℕ) : Type 0 
 
 -- ---- one option with its fields
 
--- a field that was asked for, or 0
-abbrev pub or-zero : paper.Answer ℕ → ℕ
-or-zero (paper.accepted n) = n
-or-zero (paper.refused r) = 0
+-- a part of an option that it has not, and one behind its first byte, which is byte 3
+abbrev pub nowhere : Span
+nowhere = record { at = 0; len = 0 }
 
--- where a field of bytes stands in the option, if it has it: behind its first byte, which is byte 3
-abbrev pub place-of : {A : Type 0} → paper.Answer A → ℕ
-place-of (paper.accepted a) = 4
-place-of (paper.refused r) = 0
+abbrev pub behind-first : ℕ → Span
+behind-first n = record { at = 4; len = n }
 
--- the option in front of the bytes `s`, of which the reading told `h`
-abbrev pub fields-told : List ℕ → Head → Option
-fields-told s h =
+-- the fields of an option of that type and so many bytes
+abbrev pub fields : (type size : ℕ) → First → (priority weight : ℕ) → Span → (protocol port : ℕ) → Span → Option
+fields type size first priority weight address protocol port string =
     record {
       answer = row 0 [];
-      code = h .type;
-      size = h .size;
-      discardable = cond (h .discardable) 1 0;
-      priority = or-zero (asked (of-load-balancing priority) s);
-      weight = or-zero (asked (of-load-balancing weight) s);
-      «address_at» = place-of (size-asked (of-address address-bytes) s);
-      «address_len» = or-zero (size-asked (of-address address-bytes) s);
-      protocol = or-zero (asked (of-address protocol) s);
-      port = or-zero (asked (of-address port) s);
-      «string_at» = place-of (size-asked (of-configuration string) s);
-      «string_len» = or-zero (size-asked (of-configuration string) s);
+      code = type;
+      size = size;
+      discardable = cond (first .discardable) 1 0;
+      priority = priority;
+      weight = weight;
+      «address_at» = address .at;
+      «address_len» = address .len;
+      protocol = protocol;
+      port = port;
+      «string_at» = string .at;
+      «string_len» = string .len;
     }
+
+-- an option by its kind's own fields; those that its kind has not hold 0
+abbrev pub option-fields : (size : ℕ) → Opt → Option
+option-fields size (configuring first items) = fields 0x01 size first 0 0 nowhere 0 0 (behind-first (size - 4))
+option-fields size (balancing first priority weight) = fields 0x02 size first priority weight nowhere 0 0 nowhere
+option-fields size (addressed family role first address reserved protocol port) =
+    fields (lay-type family role) size first 0 0 (behind-first (address-length family)) protocol port nowhere
+option-fields size (unrecognised type first rest) = fields type size first 0 0 nowhere 0 0 nowhere
 
 -- nothing but an answer
 abbrev pub no-option : Answer → Option
@@ -67,10 +73,10 @@ no-option a =
       «string_len» = 0;
     }
 
-abbrev pub option-told : List ℕ → paper.Answer Head → Option
-option-told s (paper.accepted h) = fields-told s h
-option-told s (paper.refused r) = no-option (refusal-row r)
+abbrev pub option-told : paper.Answer Decoded → Option
+option-told (paper.accepted d) = option-fields (d .size) (d .option)
+option-told (paper.refused r) = no-option (refusal-row r)
 
 -- the option in front of the bytes `s`, its string scanned
 unfoldable pub read-option-told : List ℕ → Option
-read-option-told s = option-told s (given head-of (read-option s))
+read-option-told s = option-told (given decoded (read-option s))

@@ -1,8 +1,10 @@
-// Runs document 01's cases of service discovery ('Both sides of each line') through the public functions, and prints each on a line: what was
-// read, and the answer with its number and values. The file stdout holds what document 01 says; a string's error is told by its place among
-// the six.
-use print::refused;
+// Runs the rules' cases of service discovery ('Both sides of each line') through the public functions and the exported ones, and prints each on a
+// line: what was read, and the answer with its number and values. The file stdout holds what the rules say; a string's error is told by its
+// place among the six. Where an exported function told something else, the line says so.
 use print::text;
+use refusal::Verdict;
+use refusal::none;
+use refusal::numbers_of;
 
 mod cases; // cases.rt: the bytes of the cases
 mod parts; // parts.rt: what is told of an entry and of an option
@@ -13,10 +15,12 @@ fn string(name: &[u8], s: &[u8]) {
     text(name);
     text(b": ");
     let answer = config_string::check_string(s);
-    match answer {
-        config_string::StringAnswer::Valid => text(b"accepted"),
-        config_string::StringAnswer::Refused(error) => refused(refusal::numbers_of_string(error)),
-    }
+    let said = match answer {
+        Verdict::Passed => none(0),
+        Verdict::Refused(refusal) => numbers_of(refusal),
+    };
+    payload::said(said);
+    payload::exported(said, hub::options::viaductle_string(s));
     text(b"\n");
 }
 
@@ -44,7 +48,7 @@ fn sizes() {
 
 // The cases of a whole payload.
 fn whole() {
-    payload::case(b"payload, document 01's whole one", &cases::WHOLE, false);
+    payload::case(b"payload, the rules' whole one", &cases::WHOLE, false);
     payload::parts(&cases::WHOLE);
     payload::case(
         b"the same with run 1 from 1",

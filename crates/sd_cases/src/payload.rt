@@ -4,10 +4,17 @@ use crate::parts::found;
 use print::number;
 use print::refused;
 use print::text;
+use hub::answers::Answer;
+use hub::payload::viaductle_read;
+use refusal::Numbers;
+use refusal::numbers_of;
+use refusal::three;
 use sd_index::SLOTS;
-use sd_index::Settings;
+use sd_option::Settings;
 use sd_payload::PayloadAnswer;
 use sd_payload::SdHeaderFlags;
+use sd_payload::SdPayload;
+ghost use Prim.Native.Nat.{_≤_};
 
 // The flags that are set.
 fn flags(f: SdHeaderFlags) {
@@ -22,8 +29,39 @@ fn flags(f: SdHeaderFlags) {
     }
 }
 
-// The answer to a payload.
-fn answered(answer: PayloadAnswer) {
+// An answer by its number and values: accepted with none to tell, or refused.
+pub(crate) fn said(n: Numbers) {
+    if n.number == 0 {
+        text(b"accepted");
+    } else {
+        refused(n);
+    }
+}
+
+// Says so where an exported function told something else.
+pub(crate) fn exported(n: Numbers, told: Answer) {
+    let values = told.values;
+    if !replay::same(n, told.number, values) {
+        text(b", but C is told something else");
+    }
+}
+
+// A flag's bit where it is set.
+fn bit(set: bool, value: u8) -> u8
+    ensures { λ r. ⌜ r ≤ value ⌝ }
+{
+    if set { value } else { 0 }
+}
+
+// What an accepted payload has, as numbers: the flags where byte 0 has them, entries, options.
+fn counted(p: SdPayload) -> Numbers {
+    let f = p.flags;
+    let bits = bit(f.reboot, 0x80) + bit(f.unicast, 0x40) + bit(f.explicit_initial_data_control, 0x20);
+    three(0, bits as u64, p.entries as u64, p.options as u64)
+}
+
+// The answer to a payload is printed; answers its number and values.
+fn answered(answer: PayloadAnswer) -> Numbers {
     match answer {
         PayloadAnswer::Good(p) => {
             let f = p.flags;
@@ -33,9 +71,19 @@ fn answered(answer: PayloadAnswer) {
             number(p.entries);
             text(b", options ");
             number(p.options);
+            counted(p)
         }
-        PayloadAnswer::Refused(refusal) => refused(refusal::numbers_of(refusal)),
+        PayloadAnswer::Refused(refusal) => {
+            let n = numbers_of(refusal);
+            refused(n);
+            n
+        }
     }
+}
+
+// The word of the settings.
+fn word(discard: bool) -> u32 {
+    if discard { hub::payload::DISCARD } else { 0 }
 }
 
 // A payload is read; prints its name and the answer.
@@ -46,7 +94,8 @@ pub(crate) fn case(name: &[u8], payload: &[u8], discard: bool) {
     };
     text(name);
     text(b": ");
-    answered(sd_payload::read_payload(settings, payload, &mut table));
+    let n = answered(sd_payload::read_payload(settings, payload, &mut table));
+    exported(n, viaductle_read(payload, &mut table, word(discard)));
     text(b"\n");
 }
 

@@ -1,12 +1,22 @@
-// Runs document 01's cases of joining segments ('Both sides of each line') through the public functions, and prints each on a line: what came,
-// the answer to it, and at the end the report. The file stdout holds what document 01 says.
+// Runs the rules' cases of joining segments ('Both sides of each line') through the public functions and the exported ones, and prints each on a
+// line: what came, the answer to it, and at the end the report. The file stdout holds what the rules say; where an exported function told
+// something else, the line says so.
 use big_endian::be32;
 use print::number;
 use print::refused;
 use print::text;
-use tp_stream::TpAnswer;
+use hub::answers::Answer;
+use hub::tp::viaductle_begin;
+use hub::tp::viaductle_consume;
+use hub::tp::viaductle_take;
+use refusal::Count;
+use refusal::Numbers;
+use refusal::Verdict;
+use refusal::none;
+use refusal::numbers_of;
+use refusal::one;
 use tp_stream::TpStream;
-use tp_stream::TpTaken;
+use tp_words::WORDS;
 ghost use mathlib.Core.Path.{_≡_};
 ghost use Prim.Native.Nat.{_≤_};
 ghost use lib.ListN.{length};
@@ -60,8 +70,31 @@ fn describe(piece: Piece) {
     }
 }
 
-// One segment comes; prints it with the answer.
-fn comes(s: TpStream, buf: &mut [u8], piece: Piece) -> TpStream
+// Says so where an exported function told something else.
+fn exported(said: Numbers, told: Answer) {
+    let values = told.values;
+    if !replay::same(said, told.number, values) {
+        text(b", but C is told something else");
+    }
+}
+
+// A verdict is printed; answers its number and values.
+fn judged(verdict: Verdict) -> Numbers {
+    match verdict {
+        Verdict::Passed => {
+            text(b"accepted");
+            none(0)
+        }
+        Verdict::Refused(refusal) => {
+            let said = numbers_of(refusal);
+            refused(said);
+            said
+        }
+    }
+}
+
+// One segment comes, to the stream and to the exported one; prints it with the answer.
+fn comes(s: TpStream, buf: &mut [u8], words: &mut [u32], other: &mut [u8], piece: Piece) -> TpStream
     requires { ⌜ piece .length ≤ 16 ⌝ }
 {
     describe(piece);
@@ -69,10 +102,7 @@ fn comes(s: TpStream, buf: &mut [u8], piece: Piece) -> TpStream
     let n = 20 + piece.length as usize;
     let step = tp_stream::consume(s, &bytes[..n], buf);
     let answer = step.answer;
-    match answer {
-        TpAnswer::Accepted => text(b"accepted"),
-        TpAnswer::Refused(refusal) => refused(tp_numbers::numbers_of(refusal)),
-    }
+    exported(judged(answer), viaductle_consume(words, &bytes[..n], other));
     text(b"; ");
     step.stream
 }
@@ -86,19 +116,23 @@ fn length_field(report: &[u8]) -> u32 {
 }
 
 // The message is taken; prints what it has, and ends the line.
-fn taken(s: TpStream, buf: &mut [u8]) {
+fn taken(s: TpStream, buf: &mut [u8], words: &[u32], other: &mut [u8]) {
     let answer = tp_stream::take(s, buf);
+    let told = viaductle_take(words, other);
     match answer {
-        TpTaken::Report(_) => {
+        Count::Good(_) => {
             let report = tp_stream::report(s, buf);
             text(b"complete, a report of ");
             number(report.len());
             text(b" bytes with length field ");
             number(length_field(report) as usize);
+            exported(one(0, report.len() as u64), told);
         }
-        TpTaken::Refused(refusal) => {
+        Count::Refused(refusal) => {
             text(b"taking: ");
-            refused(tp_numbers::numbers_of(refusal));
+            let said = numbers_of(refusal);
+            refused(said);
+            exported(said, told);
         }
     }
     text(b"\n");
@@ -118,8 +152,11 @@ fn one(limit: u32, a: Piece)
     requires { ⌜ a .length ≤ 16 ⌝ }
 {
     let mut buf = [0u8; ROOM];
-    let s = comes(fresh(limit), &mut buf, a);
-    taken(s, &mut buf);
+    let mut other = [0u8; ROOM];
+    let mut words = [0u32; WORDS];
+    viaductle_begin(&mut words, limit);
+    let s = comes(fresh(limit), &mut buf, &mut words, &mut other, a);
+    taken(s, &mut buf, &words, &mut other);
 }
 
 // A case of two.
@@ -127,9 +164,12 @@ fn two(limit: u32, a: Piece, b: Piece)
     requires { ⌜ (a .length ≤ 16) × (b .length ≤ 16) ⌝ }
 {
     let mut buf = [0u8; ROOM];
-    let s = comes(fresh(limit), &mut buf, a);
-    let t = comes(s, &mut buf, b);
-    taken(t, &mut buf);
+    let mut other = [0u8; ROOM];
+    let mut words = [0u32; WORDS];
+    viaductle_begin(&mut words, limit);
+    let s = comes(fresh(limit), &mut buf, &mut words, &mut other, a);
+    let t = comes(s, &mut buf, &mut words, &mut other, b);
+    taken(t, &mut buf, &words, &mut other);
 }
 
 // A segment with more to follow, and a final one.
