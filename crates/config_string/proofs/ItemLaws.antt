@@ -8,7 +8,7 @@ use lib.Dec.{leb, eqb}
 use lib.ListN.{length, getD, take, drop, length-drop}
 use lib.Seq.{length-take-le}
 use Rattle.numbers.specs.Refusals.{Refusal, nothing-there}
-use Rattle.numbers.specs.Answers.{Answer, accepted, refused, pass, _>>_, given}
+use Rattle.numbers.specs.Answers.{accepted, refused, pass, _>>_, given}
 use Rattle.numbers.proofs.AnswerLaws.{when-hit, when-pass, when-accepted, given-accepted, then-pass, then-accepted, accepted-inj}
 use Rattle.numbers.proofs.ByteLaws.{take-rest}
 use Rattle.sd_format.specs.Strings.{judge-item}

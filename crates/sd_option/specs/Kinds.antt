@@ -1,25 +1,34 @@
--- What the code's kinds and rows say, in document 01's table. Assumes nothing: these are definitions.
-use mathlib.Core.List.{List, [], _∷_}
-use Rattle.sd_format.specs.Kinds.{Row, row, row-of, kinds, unknown, Length, exactly, one-or-more}
+-- What the code's kinds say, and document 01's table in the code's form. Assumes nothing: these are definitions.
+use mathlib.Core.List.{List, map}
+use Rattle.sd_format.specs.Options as format
+use Rattle.sd_format.specs.Kinds.{Kind, configuration, load-balancing, address, unknown, Length, exactly, one-or-more, Row, kinds}
+use Rattle.sd_option.specs.declared.kinds.Family.{Family}
+use Rattle.sd_option.specs.declared.kinds.Family.the-variants as family
+use Rattle.sd_option.specs.declared.kinds.Role.{Role}
+use Rattle.sd_option.specs.declared.kinds.Role.the-variants as role
 use Rattle.sd_option.specs.declared.kinds.OptionKind.{OptionKind}
 use Rattle.sd_option.specs.declared.kinds.OptionKind.the-variants as kind
 use Rattle.sd_option.specs.declared.kinds.KindLength.{KindLength}
 use Rattle.sd_option.specs.declared.kinds.KindLength.the-variants as len
 use Rattle.sd_option.specs.declared.kinds.KindRow.{KindRow}
 
--- the row that a kind names; an unknown kind keeps its type
-abbrev pub row-said : OptionKind → Row
-row-said kind.Configuration = row-of 0x01
-row-said kind.LoadBalancing = row-of 0x02
-row-said kind.Ipv4Endpoint = row-of 0x04
-row-said kind.Ipv4Multicast = row-of 0x14
-row-said kind.Ipv4SdEndpoint = row-of 0x24
-row-said kind.Ipv6Endpoint = row-of 0x06
-row-said kind.Ipv6Multicast = row-of 0x16
-row-said kind.Ipv6SdEndpoint = row-of 0x26
-row-said (kind.Unknown type) = row type unknown one-or-more
+abbrev pub family-said : Family → format.Family
+family-said family.Ipv4 = format.ipv4
+family-said family.Ipv6 = format.ipv6
 
--- a row in the code's form
+abbrev pub role-said : Role → format.Role
+role-said role.Endpoint = format.endpoint
+role-said role.Multicast = format.multicast
+role-said role.SdEndpoint = format.sd-endpoint
+
+abbrev pub kind-said : OptionKind → Kind
+kind-said kind.Configuration = configuration
+kind-said kind.LoadBalancing = load-balancing
+kind-said (kind.Address f r) = address (family-said f) (role-said r)
+kind-said kind.Unknown = unknown
+
+-- ---- the table in the code's form
+
 abbrev pub length-encoded : Length → KindLength
 length-encoded (exactly n) = len.Exactly n
 length-encoded one-or-more = len.OneOrMore
@@ -27,13 +36,8 @@ length-encoded one-or-more = len.OneOrMore
 abbrev pub encoded : Row → KindRow
 encoded w = record { code = w .code; len = length-encoded (w .len) }
 
-abbrev pub all-encoded : List Row → List KindRow
-all-encoded [] = []
-all-encoded (w ∷ ws) = encoded w ∷ all-encoded ws
-
--- the table in the code's form
 abbrev pub rows : List KindRow
-rows = all-encoded kinds
+rows = map encoded kinds
 
 -- what a place past its end would hold
 abbrev pub blank : KindRow

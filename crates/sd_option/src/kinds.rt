@@ -1,22 +1,26 @@
-// The kinds of options: document 01's table of type codes and lengths, and which row a type has.
+// The kinds of options: document 01's table of type codes and lengths, and what a type has there.
 ghost use mathlib.Core.Path.{_≡_};
 ghost use Prim.Native.Nat.{_<_};
 ghost use lib.ListN.{getD};
-ghost use Rattle.sd_format.specs.Kinds.{row-of};
-ghost use Rattle.sd_option.specs.Kinds.{row-said, encoded, rows, blank};
+ghost use Rattle.sd_format.specs.Kinds.{row-of, kind-of};
+ghost use Rattle.sd_option.specs.Kinds.{kind-said, encoded, rows, blank};
 
-// The eight known kinds, and a type that is none of theirs.
-pub enum OptionKind {
-    Configuration,
-    LoadBalancing,
-    Ipv4Endpoint,
-    Ipv4Multicast,
-    Ipv4SdEndpoint,
-    Ipv6Endpoint,
-    Ipv6Multicast,
-    Ipv6SdEndpoint,
-    Unknown(u8),
-}
+// The type codes.
+pub const CONFIGURATION: u8 = 0x01;
+
+pub const LOAD_BALANCING: u8 = 0x02;
+
+pub const IPV4_ENDPOINT: u8 = 0x04;
+
+pub const IPV4_MULTICAST: u8 = 0x14;
+
+pub const IPV4_SD_ENDPOINT: u8 = 0x24;
+
+pub const IPV6_ENDPOINT: u8 = 0x06;
+
+pub const IPV6_MULTICAST: u8 = 0x16;
+
+pub const IPV6_SD_ENDPOINT: u8 = 0x26;
 
 // The length that a kind asks of the bytes after the type.
 pub enum KindLength {
@@ -32,55 +36,38 @@ pub struct KindRow {
 
 pub const KINDS: [KindRow; 8] = [
     KindRow {
-        code: 0x01,
+        code: CONFIGURATION,
         len: KindLength::OneOrMore,
     },
     KindRow {
-        code: 0x02,
+        code: LOAD_BALANCING,
         len: KindLength::Exactly(5),
     },
     KindRow {
-        code: 0x04,
+        code: IPV4_ENDPOINT,
         len: KindLength::Exactly(9),
     },
     KindRow {
-        code: 0x14,
+        code: IPV4_MULTICAST,
         len: KindLength::Exactly(9),
     },
     KindRow {
-        code: 0x24,
+        code: IPV4_SD_ENDPOINT,
         len: KindLength::Exactly(9),
     },
     KindRow {
-        code: 0x06,
+        code: IPV6_ENDPOINT,
         len: KindLength::Exactly(21),
     },
     KindRow {
-        code: 0x16,
+        code: IPV6_MULTICAST,
         len: KindLength::Exactly(21),
     },
     KindRow {
-        code: 0x26,
+        code: IPV6_SD_ENDPOINT,
         len: KindLength::Exactly(21),
     },
 ];
-
-// The kind of an option of this type.
-pub fn kind_of(code: u8) -> OptionKind
-    ensures { λ r. ⌜ row-said r ≡ row-of code ⌝ }
-{
-    match code {
-        0x01 => OptionKind::Configuration,
-        0x02 => OptionKind::LoadBalancing,
-        0x04 => OptionKind::Ipv4Endpoint,
-        0x14 => OptionKind::Ipv4Multicast,
-        0x24 => OptionKind::Ipv4SdEndpoint,
-        0x06 => OptionKind::Ipv6Endpoint,
-        0x16 => OptionKind::Ipv6Multicast,
-        0x26 => OptionKind::Ipv6SdEndpoint,
-        _ => OptionKind::Unknown(code),
-    }
-}
 
 // A row of the table, by its place there.
 fn row_at(place: usize) -> KindRow
@@ -90,22 +77,60 @@ fn row_at(place: usize) -> KindRow
     KINDS[place]
 }
 
-// The row of a kind: its type code, and the length that it asks.
-pub fn row_of(kind: OptionKind) -> KindRow
-    ensures { λ r. ⌜ r ≡ encoded (row-said kind) ⌝ }
+// The row of a type; an unknown type needs length 1 or more.
+pub fn row_of(code: u8) -> KindRow
+    ensures { λ r. ⌜ r ≡ encoded (row-of code) ⌝ }
 {
-    match kind {
-        OptionKind::Configuration => row_at(0),
-        OptionKind::LoadBalancing => row_at(1),
-        OptionKind::Ipv4Endpoint => row_at(2),
-        OptionKind::Ipv4Multicast => row_at(3),
-        OptionKind::Ipv4SdEndpoint => row_at(4),
-        OptionKind::Ipv6Endpoint => row_at(5),
-        OptionKind::Ipv6Multicast => row_at(6),
-        OptionKind::Ipv6SdEndpoint => row_at(7),
-        OptionKind::Unknown(code) => KindRow {
+    match code {
+        CONFIGURATION => row_at(0),
+        LOAD_BALANCING => row_at(1),
+        IPV4_ENDPOINT => row_at(2),
+        IPV4_MULTICAST => row_at(3),
+        IPV4_SD_ENDPOINT => row_at(4),
+        IPV6_ENDPOINT => row_at(5),
+        IPV6_MULTICAST => row_at(6),
+        IPV6_SD_ENDPOINT => row_at(7),
+        _ => KindRow {
             code,
             len: KindLength::OneOrMore,
         },
+    }
+}
+
+// Which addresses an option has.
+pub enum Family {
+    Ipv4,
+    Ipv6,
+}
+
+// What its address is for.
+pub enum Role {
+    Endpoint,
+    Multicast,
+    SdEndpoint,
+}
+
+// The known kinds, and a type that is none of theirs.
+pub enum OptionKind {
+    Configuration,
+    LoadBalancing,
+    Address(Family, Role),
+    Unknown,
+}
+
+// The kind of an option of this type.
+pub fn kind_of(code: u8) -> OptionKind
+    ensures { λ r. ⌜ kind-said r ≡ kind-of code ⌝ }
+{
+    match code {
+        CONFIGURATION => OptionKind::Configuration,
+        LOAD_BALANCING => OptionKind::LoadBalancing,
+        IPV4_ENDPOINT => OptionKind::Address(Family::Ipv4, Role::Endpoint),
+        IPV4_MULTICAST => OptionKind::Address(Family::Ipv4, Role::Multicast),
+        IPV4_SD_ENDPOINT => OptionKind::Address(Family::Ipv4, Role::SdEndpoint),
+        IPV6_ENDPOINT => OptionKind::Address(Family::Ipv6, Role::Endpoint),
+        IPV6_MULTICAST => OptionKind::Address(Family::Ipv6, Role::Multicast),
+        IPV6_SD_ENDPOINT => OptionKind::Address(Family::Ipv6, Role::SdEndpoint),
+        _ => OptionKind::Unknown,
     }
 }

@@ -1,10 +1,9 @@
 // One option: its kind, and its reading from the front of a slice. Its fields: crate sd_field.
-mod bytes;
 pub mod kinds;
 pub mod reading;
 
-// An option's place in the count.
-pub struct Ordinal(pub usize);
-
-// An option's byte offset in the options part.
-pub struct Offset(pub usize);
+// The settings of a reading.
+pub struct Settings {
+    // An unknown option is accepted although it may not be discarded.
+    pub discard_unknown_option: bool,
+}

@@ -1,51 +1,50 @@
--- `reading::judged_length` meets its contract: any length, the same one, another one. Assumes nothing.
+-- `reading::judged_length` meets its contract: any length, another one, the same one. Assumes nothing.
 use mathlib.Core.Path.{_≡_, sym, ap, _∙_}
 use mathlib.Core.Logic.{_≢_}
+use mathlib.Core.Bool.{not}
 use native.Mathlib.Omega.{arith}
-use Rattle.sd_option.specs.declared.kinds.KindRow.{KindRow}
-use Rattle.sd_option.specs.Kinds.{row-said, length-encoded}
-use Rattle.sd_option.proofs.KindLaws.{asks-any, asks-exactly}
-use Rattle.sd_option.proofs.ReadingLaws.{any-length, same-length, other-length}
 use borrow.Author.Needs.{needs}
+use borrow.Author.Tests.{eq-eqb, ne-eqb}
+use Rattle.numbers.proofs.AnswerLaws.{when-hit, when-pass}
+use Rattle.sd_format.specs.Kinds.{Length, row-of, judge-length}
+use Rattle.sd_option.specs.declared.kinds.KindRow.{KindRow}
+use Rattle.sd_option.specs.declared.kinds.KindLength.{KindLength}
+use Rattle.sd_option.proofs.KindLaws.{decoded, decoded-encoded}
 use Rattle.sd_option.proofs.reading.judged_length.Statement.{statement}
 use Rattle.sd_option.proofs.reading.judged_length.Tie as tie
 
-row-of-requires : tie.Need-row-of-requires
-row-of-requires c κs = search needs
-
-enum-known-asked : tie.Need-enum-known-asked
-enum-known-asked c = search needs
-
-enum-told : tie.Need-enum-told
-enum-told c = search needs
-
 -- what the row asks
-asks : (c : tie.After-row-of) → length-encoded (row-said (c .before .args .kind) .len) ≡ c .row-of .result .len
-asks c = sym (ap (λ (r : KindRow). r .len) (c .row-of .ensures))
+asks : (c : tie.After-row-of) (l : KindLength) → c .row-of .result .len ≡ l → row-of (c .before .args .code) .len ≡ decoded l
+asks c l e = sym (decoded-encoded _) ∙ ap decoded (sym (ap (λ (r : KindRow). r .len) (c .row-of .ensures)) ∙ e)
 
 returns : tie.Need-returns
-returns c body e =
-    let b = c .before .before in
-    any-length (b .before .args .had) body e (row-said (b .before .args .kind) .len) (asks-any _ (asks b ∙ c .enum-told .given .1))
-
-cast-needed : tie.Need-cast-needed
-cast-needed c = search needs
+unfolding judge-length
+returns c = let b = c .before .before in sym (ap (λ (l : Length). judge-length l (b .before .args .had)) (asks b _ (c .enum-told .given .1)))
 
 returns-2 : tie.Need-returns-2
-returns-2 c body e =
+unfolding judge-length
+returns-2 c =
     let b = c .before .before .before .before in
     let known = c .before .before .asked .given in
     let other : b .before .args .had ≢ known .0 .0 = λ same. omega arith in
-    other-length (b .before .args .had) body e (row-said (b .before .args .kind) .len) (known .0 .0) (asks-exactly _ _ (asks b ∙ known .1)) other
+    sym (ap (λ (l : Length). judge-length l (b .before .args .had)) (asks b _ (known .1)) ∙ when-hit _ _ _ (ap not (ne-eqb _ _ other)))
 
 returns-3 : tie.Need-returns-3
-returns-3 c body e =
+unfolding judge-length
+returns-3 c =
     let b = c .before .before .before .before in
     let known = c .before .before .asked .given in
     let same : b .before .args .had ≡ known .0 .0 = omega arith in
-    same-length (b .before .args .had) body e (row-said (b .before .args .kind) .len) (known .0 .0) (asks-exactly _ _ (asks b ∙ known .1)) same
+    sym (ap (λ (l : Length). judge-length l (b .before .args .had)) (asks b _ (known .1)) ∙ when-pass _ _ _ (ap not (eq-eqb _ _ same)))
 
 pub judged-length-spec : {M : Type 1} → statement M
 judged-length-spec =
     tie.close
-    (tie.spec row-of-requires enum-known-asked enum-told returns cast-needed returns-2 returns-3)
+    (tie.spec
+    (λ c κs. search needs)
+    (λ c. search needs)
+    (λ c. search needs)
+    returns
+    (λ c. search needs)
+    returns-2
+    returns-3)

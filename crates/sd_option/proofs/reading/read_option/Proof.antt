@@ -1,27 +1,52 @@
 -- `reading::read_option` meets its contract: the reading without the string, and then the string. Assumes nothing.
-use mathlib.Core.Path.{ap, _∙_}
-use denote.Ref.{now}
-use Rattle.sd_option.specs.Reading.{scan-told}
-use Rattle.sd_option.proofs.ReadingLaws.{scan-reads}
+use mathlib.Core.Path.{sym, ap, _∙_}
 use borrow.Author.Needs.{needs}
+use Rattle.numbers.specs.Answers.{accepted, refused, given}
+use Rattle.sd_format.specs.Kinds.{unscanned}
+use Rattle.refusal.specs.declared.Refusal.{Refusal}
+use Rattle.refusal.specs.Said.{said, verdict-refusal}
+use Rattle.sd_option.specs.Reading.{head-of, option-said}
+use Rattle.sd_option.proofs.ReadingLaws.{Found, found, not-found, refused-before, string-refused, string-passed}
 use Rattle.sd_option.proofs.reading.read_option.Statement.{statement}
 use Rattle.sd_option.proofs.reading.read_option.Tie as tie
 
-read-option-unscanned-requires : tie.Need-read-option-unscanned-requires
-read-option-unscanned-requires c κs = search needs
-
-scanned-requires : tie.Need-scanned-requires
-scanned-requires c κs = search needs
-
 returns : tie.Need-returns
+unfolding given
 returns c =
-    let s = now (c .before .before .before .args .s) in
-    c .scanned .ensures ∙ ap (scan-told s) (c .before .read-option-unscanned .ensures) ∙ scan-reads s
+    let b = c .before .before in
+    let told = c .enum-told .given .1 in
+    ap option-said told ∙ sym (ap (given head-of) (refused-before _ _ (not-found unscanned _ _ (b .read-option-unscanned .ensures) _ told)))
+
+-- the option but for its string
+here : (c : tie.After-known-told) → Found unscanned (c .before .before .before .before .before .args .s .now) (c .before .answer .given .0 .0)
+here c = let b = c .before .before .before in found unscanned _ _ (b .read-option-unscanned .ensures) _ (c .before .answer .given .1)
+
+returns-2 : tie.Need-returns-2
+unfolding given
+returns-2 c =
+    let b = c .before .before .before in
+    let told = c .before .enum-told3 .given .1 in
+    ap (λ (r : Refusal). refused (said r)) (c .refusal .ensures ∙ ap verdict-refusal told)
+    ∙ sym (ap (given head-of) (string-refused _ _ (here (b .before)) _ (b .scan .ensures) _ told))
+
+returns-3 : tie.Need-returns-3
+unfolding given
+returns-3 c =
+    let b = c .before .before in
+    let t = string-passed _ _ (here (b .before)) _ (b .scan .ensures) (c .enum-told2 .given .1) in
+    sym (ap (given head-of) (t .reads) ∙ ap accepted (t .head))
 
 pub read-option-spec : {M : Type 1} → statement M
 read-option-spec =
     tie.close
     (tie.spec
-    read-option-unscanned-requires
-    scanned-requires
-    returns)
+    (λ c κs. search needs)
+    (λ c. search needs)
+    (λ c. search needs)
+    returns
+    (λ c κs. search needs)
+    (λ c. search needs)
+    (λ c. search needs)
+    (λ c κs. search needs)
+    returns-2
+    returns-3)
