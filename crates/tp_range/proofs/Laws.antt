@@ -13,11 +13,7 @@ use lib.Seq.{take-suc, drop-cons, slice-cons, take-all, set-append-seam}
 use Rattle.tp_machine.specs.declared.TpRange.{TpRange}
 use Rattle.tp_machine.specs.Ranges.{any, touch, hull-of, unless, keep, grow-if, grow, joined, some-touch}
 use Rattle.tp_machine.specs.Machine.{most}
-use Rattle.tp_range.specs.Joining.{placed, fitted, joined-in}
-
--- what a read past the end would give
-abbrev pub none : TpRange
-none = record { start = 0; end = 0 }
+use Rattle.tp_range.specs.Joining.{none, placed, fitted, joined-in}
 
 -- two ranges are equal by their fields
 pub range-eq : (a b : TpRange) → a .start ≡ b .start → a .end ≡ b .end → a ≡ b
@@ -37,19 +33,6 @@ grow-snoc : (n g : TpRange) (xs : List TpRange) (r : TpRange) → grow n g (xs +
 unfolding grow
 grow-snoc n g [] r = refl
 grow-snoc n g (x ∷ xs) r = grow-snoc n (grow-if (touch n x) g x) xs r
-
-unless-length : (b : Bool) (r : TpRange) (xs : List TpRange) (k : ℕ) → length xs ≤ k → length (unless b r xs) ≤ suc k
-unless-length true r xs k h = omega arith
-unless-length false r xs k h = omega arith
-
--- no more are kept than there were
-keep-length : (n : TpRange) (xs : List TpRange) → length (keep n xs) ≤ length xs
-unfolding keep
-keep-length n [] = omega arith
-keep-length n (x ∷ xs) = unless-length (touch n x) x (keep n xs) (length xs) (keep-length n xs)
-
-pub keep-few : (n : TpRange) (i : ℕ) (rs : List TpRange) → length (keep n (take i rs)) ≤ i
-keep-few n i rs = omega (arith, keep-length n (take i rs), length-take i rs)
 
 -- the range that follows the first i of rs, and what it adds
 module _ (n : TpRange) (rs : List TpRange) (i : ℕ) (d : TpRange) (h : i < length rs) where

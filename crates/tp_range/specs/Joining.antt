@@ -9,6 +9,10 @@ use Rattle.tp_machine.specs.Ranges.{joined}
 use Rattle.tp_machine.specs.Machine.{most}
 use Rattle.tp_range.specs.declared.Joined.{Joined}
 
+-- a range that was never used
+abbrev pub none : TpRange
+none = record { start = 0; end = 0 }
+
 -- the array with rs in its first places, the places behind them as they were
 unfoldable pub placed : List TpRange → List TpRange → List TpRange
 placed array rs = take (length array) (rs ++ drop (length rs) array)

@@ -19,7 +19,7 @@ pub struct Joined {
 }
 
 // Whether neither ends before the other begins.
-pub fn touches(a: TpRange, b: TpRange) -> bool
+fn touches(a: TpRange, b: TpRange) -> bool
     ensures { λ r. ⌜ r ≡ touch a b ⌝ }
 {
     a.start <= b.end && b.start <= a.end
@@ -40,7 +40,7 @@ fn greatest(x: u32, y: u32) -> u32
 }
 
 // The least range that holds both.
-pub fn hull(a: TpRange, b: TpRange) -> TpRange
+fn hull(a: TpRange, b: TpRange) -> TpRange
     ensures { λ r. ⌜ r ≡ hull-of a b ⌝ }
 {
     TpRange {

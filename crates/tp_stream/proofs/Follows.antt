@@ -1,18 +1,18 @@
 -- What the promises come to over the machine: the states begun and cleared are the machine's, calls one after the other run as the machine
 -- does, and the part that is handed out after taking is the machine's report. Assumes nothing.
-use Prim.Native.Nat.{ℕ, _+_, _≤_}
+use Prim.Native.Nat.{ℕ, _+_}
 use mathlib.Core.Path.{_≡_, refl, sym, ap, _∙_}
 use mathlib.Core.List.{List, [], _∷_}
 use native.Mathlib.Omega.{arith}
-use lib.ListN.{length, length-append, length-take, length-drop}
+use lib.ListN.{length}
 use Rattle.numbers.specs.Bytes.{be16, be32}
 use Rattle.numbers.specs.Answers.{Answer, accepted, refused}
-use Rattle.tp_machine.specs.Segments.{pasted}
+use Rattle.refusal.specs.declared.answers.Count.{Count}
 use Rattle.tp_machine.specs.Machine.{State, Out, step, begin, fed, clear}
 use Rattle.tp_machine.specs.Taking.{ready, finished, report, taking}
+use Rattle.tp_machine.proofs.Writing.{pasted-length}
 use Rattle.tp_stream.specs.declared.TpStream.{TpStream}
 use Rattle.tp_stream.specs.declared.TpStep.{TpStep}
-use Rattle.tp_stream.specs.declared.TpTaken.{TpTaken}
 use Rattle.tp_stream.specs.Stream.{view, stored, blank}
 use Rattle.tp_stream.specs.Promises.{Began, Ran, Took}
 use Rattle.tp_stream.proofs.StreamLaws.{view-stored}
@@ -45,15 +45,12 @@ runs (next {s} {buf} {seg} ran more) o h =
     runs more (step (o .state) seg (o .buffer)) (ap (λ (x : Out). x .state) q, ap (λ (x : Out). x .buffer) q)
 
 -- the length field leaves the buffer's length
-pasted-length : (buf : List ℕ) (n : ℕ) → 8 ≤ length buf → length (pasted buf 4 (be32 n)) ≡ length buf
-unfolding pasted be32 be16
-pasted-length buf n h = simp (length-append, length-take, length-drop) (omega arith)
-
 finished-length : (p : State) (buf : List ℕ) (a : Answer ℕ) → a ≡ ready p (length buf) → length (finished a buf) ≡ length buf
-finished-length p buf (accepted e) q = pasted-length buf (e + 8) (omega (arith, ready-tells p (length buf) e q))
+unfolding be32 be16
+finished-length p buf (accepted e) q = pasted-length buf 4 (be32 (e + 8)) (omega (arith, ready-tells p (length buf) e q))
 finished-length p buf (refused r) q = refl
 
-pub reports : (s : TpStream) (buf : List ℕ) (r : TpTaken) (after part : List ℕ) → Took s buf r after
+pub reports : (s : TpStream) (buf : List ℕ) (r : Count) (after part : List ℕ) → Took s buf r after
     → part ≡ report (ready (view s) (length after)) after → part ≡ taking (view s) buf .part
 unfolding taking
 reports s buf r after part t e =

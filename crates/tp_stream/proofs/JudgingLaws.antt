@@ -1,6 +1,6 @@
 -- The tests of a segment, one by one and in their order. Assumes nothing.
 use Prim.Native.Nat.{ℕ, _+_, _-_, _%_, _≤_, _<_}
-use mathlib.Core.Path.{_≡_, refl, sym, subst}
+use mathlib.Core.Path.{_≡_, refl, sym, ap, subst, _∙_}
 use mathlib.Core.Bool.{Bool, true, false, _&&_, not}
 use mathlib.Core.List.{List}
 use native.Mathlib.Omega.{arith}
@@ -8,15 +8,19 @@ use borrow.Author.Tests.{lt-ltb, le-ltb, ltb-true, ltb-false}
 use lib.Dec.{ltb, eqb}
 use Rattle.numbers.specs.Refusals.{not-a-segment, segment-too-big, unaligned, conflicting-end, buffer-too-short, malformed-state}
 use Rattle.numbers.specs.Answers.{refused, refuse_when_else_}
+use Rattle.refusal.specs.declared.Refusal.{Refusal}
+use Rattle.refusal.specs.Said.{said}
 use Rattle.tp_machine.specs.declared.TpEnd.{TpEnd}
 use Rattle.tp_machine.specs.declared.TpEnd.the-variants.{Known}
 use Rattle.tp_machine.specs.Segments.{is-segment, end-of}
 use Rattle.tp_machine.specs.Machine.{State, bad-state, conflicts, previous, judged}
 use Rattle.tp_segment.specs.declared.TpHeader.{TpHeader}
-use Rattle.tp_segment.specs.Reading.{header-of}
-use Rattle.tp_segment.proofs.Laws.{is-long}
-use Rattle.tp_stream.specs.Promises.{Passed}
-use Rattle.tp_stream.proofs.MalformedLaws.{sound}
+use Rattle.tp_segment.specs.declared.SegmentAnswer.{SegmentAnswer}
+use Rattle.tp_segment.specs.declared.SegmentAnswer.the-variants as segment
+use Rattle.tp_segment.specs.Reading.{header-of, segment-said, reading}
+use Rattle.tp_segment.proofs.Laws.{reading-not}
+use Rattle.tp_machine.proofs.Tests.{segment-means, good-means}
+use Rattle.tp_stream.specs.Promises.{Passed, Judges}
 
 -- 31: an offset past the limit, or a length past what is left
 pub past-limit : (limit offset size : ℕ) → limit < offset → true ≡ ltb limit (offset + size)
@@ -46,9 +50,15 @@ module _ (p : State) (seg : List ℕ) (room : ℕ) where
   unfolding judged refuse_when_else_
   judged-malformed m = rw m
 
-  pub judged-not : bad-state p ≡ false → is-segment seg ≡ false → judged p seg room ≡ refused not-a-segment
+  judged-not : bad-state p ≡ false → is-segment seg ≡ false → judged p seg room ≡ refused not-a-segment
   unfolding judged refuse_when_else_
   judged-not m g = rw (m, g)
+
+  -- what reading refused is handed on
+  pub judged-unread : bad-state p ≡ false → (a : SegmentAnswer) (r : Refusal) → a ≡ segment.Refused r → segment-said a ≡ reading seg → Judges p seg room a
+  judged-unread m a r e q =
+      let n = reading-not seg (said r) (ap segment-said (sym e) ∙ q) in
+      subst (Judges p seg room) (sym e) (judged-not m (n .0) ∙ ap refused (sym (n .1)))
 
 -- the tests by what the header says: 31, 32, 33, 34
 abbrev pub past : State → TpHeader → Bool
@@ -60,16 +70,16 @@ uneven h = h .more && not (eqb (h .size % 16) 0)
 abbrev pub clash : State → TpHeader → Bool
 clash p h = conflicts (p .end) (h .more) (h .offset + h .size)
 
-abbrev pub short-of : ℕ → TpHeader → Bool
-short-of room h = ltb room (16 + (h .offset + h .size))
+abbrev pub needs : TpHeader → ℕ
+needs h = 16 + (h .offset + h .size)
 
 -- what each of them decides
 pub record Decides (p : State) (seg : List ℕ) (room : ℕ) (h : TpHeader) : Type 0 where
   pub big : past p h ≡ true → judged p seg room ≡ refused (segment-too-big (h .offset) (h .size) (p .limit))
   pub unaligned-first : past p h ≡ false → uneven h ≡ true → judged p seg room ≡ refused (unaligned (h .offset) (h .size))
   pub conflict : past p h ≡ false → uneven h ≡ false → clash p h ≡ true → judged p seg room ≡ refused (conflicting-end (previous (p .end)) (h .offset + h .size))
-  pub short : past p h ≡ false → uneven h ≡ false → clash p h ≡ false → short-of room h ≡ true → judged p seg room ≡ refused (buffer-too-short (16 + (h .offset + h .size)))
-  pub passes : past p h ≡ false → uneven h ≡ false → clash p h ≡ false → short-of room h ≡ false → Passed p seg room h
+  pub short : past p h ≡ false → uneven h ≡ false → clash p h ≡ false → (n : ℕ) → n ≡ needs h → room < n → judged p seg room ≡ refused (buffer-too-short n)
+  pub passes : past p h ≡ false → uneven h ≡ false → clash p h ≡ false → needs h ≤ room → Passed p seg room h
 
 module _ (p : State) (seg : List ℕ) (room : ℕ) (m : bad-state p ≡ false) (g : is-segment seg ≡ true) where
   of-header : Decides p seg room (header-of seg)
@@ -78,14 +88,14 @@ module _ (p : State) (seg : List ℕ) (room : ℕ) (m : bad-state p ≡ false) (
     big = λ a. rw (m, g, a);
     unaligned-first = λ a b. rw (m, g, a, b);
     conflict = λ a b c. rw (m, g, a, b, c);
-    short = λ a b c d. rw (m, g, a, b, c, d);
+    short = λ a b c n e d. rw (m, g, a, b, c, ← e, lt-ltb room n d);
     passes = λ a b c d. record {
-      good = m;
+      good = good-means p .0 m;
       header = refl;
-      long = is-long seg g;
-      low = omega (arith, ltb-false (p .limit) (end-of seg) a, sound p m .low);
-      fits = ltb-false room (16 + end-of seg) d;
-      rest = rw (m, g, a, b, c, d);
+      long = segment-means seg .0 g .long;
+      low = omega (arith, ltb-false (p .limit) (end-of seg) a, good-means p .0 m .low);
+      fits = d;
+      rest = rw (m, g, a, b, c, le-ltb room (16 + end-of seg) d);
     };
   }
 

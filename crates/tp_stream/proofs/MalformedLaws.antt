@@ -1,10 +1,9 @@
--- 38, rule by rule, of a range and of a stream's record; and what a state that is not malformed tells. Assumes nothing.
+-- 38, rule by rule, of a range and of a stream's record. Assumes nothing.
 use Prim.Native.Nat.{ℕ, _≤_, _<_}
-use mathlib.Core.Path.{_≡_, refl, sym, ap}
-use mathlib.Core.Bool.{Bool, true, false, _||_}
-use mathlib.Core.List.{List, _∷_}
+use mathlib.Core.Path.{_≡_, sym, ap}
+use mathlib.Core.Bool.{true, false}
 use native.Mathlib.Omega.{arith}
-use borrow.Author.Tests.{lt-ltb, le-ltb, ltb-false}
+use borrow.Author.Tests.{lt-ltb, le-ltb}
 use lib.Dec.{ltb}
 use lib.ListN.{length, take}
 use Rattle.tp_machine.specs.declared.TpRange.{TpRange}
@@ -51,30 +50,3 @@ module _ (s : TpStream) where
         pub two-touch : any (bad-range (view s)) (take (s .count) (s .ranges)) ≡ false → some-touch (take (s .count) (s .ranges)) ≡ bad-state (view s)
         unfolding bad-state
         two-touch e = rw (held-length, le-ltb most (s .count) few, le-ltb highest (s .limit) low, ends, ap (any (bad-range (view s))) the-ranges, e) (ap some-touch (sym the-ranges))
-
--- ---- what a state that is not malformed tells
-neither : (a b : Bool) → (a || b) ≡ false → (a ≡ false) × (b ≡ false)
-neither true b e = (e, cc)
-neither false b e = (refl, e)
-
-pub record Sound (p : State) : Type 0 where
-  pub few : length (p .ranges) ≤ most
-  pub low : p .limit ≤ highest
-  pub each : any (bad-range p) (p .ranges) ≡ false
-
-pub sound : (p : State) → bad-state p ≡ false → Sound p
-unfolding bad-state
-sound p e =
-    let a = neither (ltb most (length (p .ranges))) _ e in
-    let b = neither (ltb highest (p .limit)) _ (a .1) in
-    let c = neither (end-past (p .end) (p .limit)) _ (b .1) in
-    let d = neither (any (bad-range p) (p .ranges)) _ (c .1) in
-    record { few = ltb-false most (length (p .ranges)) (a .0); low = ltb-false highest (p .limit) (b .0); each = d .0 }
-
--- the first range ends within the limit
-pub first-within : (p : State) (r : TpRange) (rs : List TpRange) → any (bad-range p) (r ∷ rs) ≡ false → r .end ≤ p .limit
-unfolding any bad-range
-first-within p r rs e =
-    let a = neither (bad-range p r) (any (bad-range p) rs) e in
-    let b = neither (ltb (r .end) (r .start)) (ltb (p .limit) (r .end)) (a .0) in
-    ltb-false (p .limit) (r .end) (b .1)

@@ -1,25 +1,27 @@
 -- Laws of a stream's record: the state that it holds, and a record with a state put into it. Assumes nothing.
 use Prim.Native.Nat.{ℕ, _+_, _-_, _≤_, _<_}
 use mathlib.Core.Path.{_≡_, refl, sym, ap, _∙_}
-use mathlib.Core.Bool.{Bool, true, false}
+use mathlib.Core.Bool.{Bool, true, false, cond}
 use mathlib.Core.List.{List, [], _++_, append-nil, append-assoc, map}
 use native.Mathlib.Omega.{arith}
 use borrow.Author.Tests.{leb-true, leb-false, lt-ltb, le-ltb}
-use lib.Dec.{leb}
+use lib.Dec.{leb, ltb}
 use lib.ListN.{length, take, drop, replicate, length-append, length-take, length-replicate, length-map, take-append-drop}
 use lib.Seq.{take-length, take-all, take-append-seam}
 use Rattle.tp_machine.specs.declared.TpRange.{TpRange}
 use Rattle.numbers.specs.Refusals.{limit-too-large}
-use Rattle.numbers.specs.Answers.{pass, refused}
-use Rattle.numbers.proofs.AnswerLaws.{when-hit, when-pass}
+use Rattle.numbers.specs.Answers.{refused, pass, refuse_when_else_}
+use Rattle.numbers.proofs.AnswerLaws.{when-hit, when-pass, not-refused}
+use Rattle.refusal.specs.declared.Refusal.{Refusal}
+use Rattle.refusal.specs.declared.answers.Verdict.{Verdict}
+use Rattle.refusal.specs.declared.answers.Verdict.the-variants as verdict
+use Rattle.refusal.specs.Said.{said, verdict-said}
 use Rattle.tp_machine.specs.declared.TpEnd.the-variants.{Unknown}
-use Rattle.tp_machine.specs.Machine.{most, highest, State, begun, begin, clear}
-use Rattle.tp_range.specs.Joining.{placed}
+use Rattle.tp_machine.specs.Machine.{most, highest, State, fresh, begun, begin, clear}
+use Rattle.tp_range.specs.Joining.{none, placed}
 use Rattle.tp_range.proofs.Laws.{over, over-length, placed-over}
 use Rattle.tp_stream.specs.declared.TpStream.{TpStream}
-use Rattle.tp_stream.specs.Stream.{none, held, view, stored, blank}
-use Rattle.tp_stream.specs.declared.TpAnswer.{TpAnswer}
-use Rattle.tp_stream.specs.Saying.{answerOf}
+use Rattle.tp_stream.specs.Stream.{held, view, stored, blank}
 use Rattle.tp_stream.specs.Promises.{Began}
 
 -- what owning a struct tells of an array in it speaks of the elements mapped
@@ -82,12 +84,10 @@ pub cleared : (s : TpStream) → record { limit = s .limit; ranges = s .ranges; 
 unfolding clear
 cleared s = λ i. record { limit = s .limit; ranges = keeps-places (s .ranges) i; count = 0; end = Unknown }
 
-pub began : (limit l : ℕ) (a : TpAnswer) → answerOf a ≡ begun limit → l ≡ begin limit .limit
-    → Began limit (record { answer = a; stream = record { limit = l; ranges = replicate most none; count = 0; end = Unknown } })
-unfolding begin blank
-began limit l a e q = record { answers = e; begins = λ i. record { limit = q i; ranges = keeps-places (replicate most none) i; count = 0; end = Unknown } }
+pub fresh-stored : (limit : ℕ) → record { limit = limit; ranges = replicate most none; count = 0; end = Unknown } ≡ stored blank (fresh limit)
+unfolding blank clear
+fresh-stored limit = cleared (record { limit = limit; ranges = replicate most none; count = 0; end = Unknown })
 
--- 36
 module _ (limit : ℕ) where
   pub begun-not : highest < limit → refused (limit-too-large limit) ≡ begun limit
   unfolding begun
@@ -97,10 +97,19 @@ module _ (limit : ℕ) where
   unfolding begun
   begun-well h = rw (le-ltb highest limit h, when-pass)
 
-  pub granted-none : highest < limit → 0 ≡ begin limit .limit
-  unfolding begin
-  granted-none h = rw (lt-ltb highest limit h)
+  -- the limit that is granted, by what was answered
+  pub began-not : (a : Verdict) (r : Refusal) (s : TpStream) → a ≡ verdict.Refused r → verdict-said a ≡ begun limit → s ≡ stored blank (fresh 0) → Began limit (record { answer = a; stream = s })
+  unfolding begun begin refuse_when_else_
+  began-not a r s is q e = record { answers = q; begins = go (ltb highest limit) (ap verdict-said (sym is) ∙ q) }
+    where
+      go : (b : Bool) → refused (said r) ≡ (refuse limit-too-large limit when b else pass) → s ≡ stored blank (fresh (cond b 0 limit))
+      go true w = e
+      go false w = not-refused (said r) tt w
 
-  pub granted-all : limit ≤ highest → limit ≡ begin limit .limit
-  unfolding begin
-  granted-all h = rw (le-ltb highest limit h)
+  pub began-well : (a : Verdict) (s : TpStream) → a ≡ verdict.Passed → verdict-said a ≡ begun limit → s ≡ stored blank (fresh limit) → Began limit (record { answer = a; stream = s })
+  unfolding begun begin refuse_when_else_
+  began-well a s is q e = record { answers = q; begins = go (ltb highest limit) (ap verdict-said (sym is) ∙ q) }
+    where
+      go : (b : Bool) → pass ≡ (refuse limit-too-large limit when b else pass) → s ≡ stored blank (fresh (cond b 0 limit))
+      go true w = not-refused (limit-too-large limit) tt (sym w)
+      go false w = e

@@ -1,10 +1,9 @@
 -- Laws of what is written into a buffer. Assumes nothing.
-use Prim.Native.Nat.{ℕ, _+_, _-_, _≤_, _<_}
+use Prim.Native.Nat.{ℕ, _+_, _≤_, _<_}
 use mathlib.Core.Path.{_≡_, sym, ap, _∙_}
 use mathlib.Core.List.{List, [], _∷_, _++_, append-assoc}
-use native.Mathlib.Omega.{arith}
-use lib.ListN.{length, take, drop, set, length-set, length-drop}
-use lib.Seq.{paste, take-length, take-all, set-append-left, sets-eq}
+use lib.ListN.{length, take, drop, set, length-set}
+use lib.Seq.{paste, take-length, set-append-left, sets-eq}
 use Rattle.tp_machine.specs.Segments.{pasted}
 
 -- the copy of all of s
@@ -16,10 +15,6 @@ paste-all d at s = ap (λ (l : List ℕ). take at d ++ l ++ drop (at + length s)
 pub head-pasted : (d s : List ℕ) (i v : ℕ) → i < length s → set (pasted d 0 s) i v ≡ pasted d 0 (set s i v)
 unfolding pasted
 head-pasted d s i v h = set-append-left s (drop (0 + length s) d) i v h ∙ ap (λ (n : ℕ). set s i v ++ drop (0 + n) d) (sym (length-set s i v))
-
--- the part from k to the end
-pub tail-all : (s : List ℕ) (k : ℕ) → take (length s - k) (drop k s) ≡ drop k s
-tail-all s k = take-all (length s - k) (drop k s) (rw length-drop (omega arith))
 
 -- the four stores
 pub four : (buf : List ℕ) (a b c d : ℕ) → 8 ≤ length buf → set (set (set (set buf 4 a) 5 b) 6 c) 7 d ≡ pasted buf 4 (a ∷ b ∷ c ∷ d ∷ [])

@@ -1,3 +1,2 @@
-pub mod Saying
 pub mod Stream
 pub mod Promises

@@ -1,32 +1,32 @@
 -- What is promised of a stream's calls. Assumes nothing: these are definitions.
 use Prim.Native.Nat.{ℕ, _+_, _≤_}
 use mathlib.Core.Path.{_≡_}
-use mathlib.Core.Bool.{false}
 use mathlib.Core.List.{List}
 use lib.ListN.{length}
 use Rattle.numbers.specs.Refusals.{ranges-full}
 use Rattle.numbers.specs.Answers.{refused, pass, refuse_when_else_}
+use Rattle.refusal.specs.declared.answers.Count.{Count}
+use Rattle.refusal.specs.Said.{said, verdict-said, count-said}
 use Rattle.tp_machine.specs.Segments.{end-of}
-use Rattle.tp_machine.specs.Machine.{highest, State, Out, bad-state, judged, too-many, step, begun, begin}
+use Rattle.tp_machine.specs.Machine.{highest, State, Out, judged, too-many, step, begun, begin}
 use Rattle.tp_machine.specs.Taking.{taking}
+use Rattle.tp_machine.specs.Meaning.{Good}
 use Rattle.tp_segment.specs.declared.TpHeader.{TpHeader}
+use Rattle.tp_segment.specs.declared.SegmentAnswer.{SegmentAnswer}
+use Rattle.tp_segment.specs.declared.SegmentAnswer.the-variants as segment
 use Rattle.tp_segment.specs.Reading.{header-of}
 use Rattle.tp_stream.specs.declared.TpStream.{TpStream}
 use Rattle.tp_stream.specs.declared.TpStep.{TpStep}
-use Rattle.tp_stream.specs.declared.TpTaken.{TpTaken}
-use Rattle.tp_stream.specs.declared.judging.TpJudged.{TpJudged}
-use Rattle.tp_stream.specs.declared.judging.TpJudged.the-variants.{Good, Refused}
-use Rattle.tp_stream.specs.Saying.{said, answerOf, takenOf}
 use Rattle.tp_stream.specs.Stream.{view, stored, blank}
 
 -- beginning: the machine's answer, and its state in a record that was never used
 pub record Began (limit : ℕ) (r : TpStep) : Type 0 where
-  pub answers : answerOf (r .answer) ≡ begun limit
+  pub answers : verdict-said (r .answer) ≡ begun limit
   pub begins : r .stream ≡ stored blank (begin limit)
 
 -- what a call left, as the machine sees it
 abbrev pub seen : TpStep → List ℕ → Out
-seen r buffer = record { answer = answerOf (r .answer); state = view (r .stream); buffer = buffer }
+seen r buffer = record { answer = verdict-said (r .answer); state = view (r .stream); buffer = buffer }
 
 -- one segment: answer, state and buffer are the machine's, and the places of the array that hold no range are as they were
 pub record Ran (s : TpStream) (seg buf : List ℕ) (r : TpStep) (after : List ℕ) : Type 0 where
@@ -34,15 +34,15 @@ pub record Ran (s : TpStream) (seg buf : List ℕ) (r : TpStep) (after : List �
   pub places : r .stream ≡ stored s (view (r .stream))
 
 -- taking: answer and buffer are the machine's
-pub record Took (s : TpStream) (buf : List ℕ) (r : TpTaken) (after : List ℕ) : Type 0 where
-  pub answers : takenOf r ≡ taking (view s) buf .answer
+pub record Took (s : TpStream) (buf : List ℕ) (r : Count) (after : List ℕ) : Type 0 where
+  pub answers : count-said r ≡ taking (view s) buf .answer
   pub writes : after ≡ taking (view s) buf .buffer
 
 -- ---- between the parts of the code
 
 -- a segment that passed all tests but the one after joining
 pub record Passed (p : State) (seg : List ℕ) (room : ℕ) (h : TpHeader) : Type 0 where
-  pub good : bad-state p ≡ false
+  pub good : Good p
   pub header : h ≡ header-of seg
   pub long : 20 ≤ length seg
   pub low : end-of seg ≤ highest
@@ -50,6 +50,6 @@ pub record Passed (p : State) (seg : List ℕ) (room : ℕ) (h : TpHeader) : Typ
   pub rest : judged p seg room ≡ (refuse ranges-full when too-many p seg else pass)
 
 -- judging: that, or the machine's refusal
-abbrev pub Judges : State → List ℕ → ℕ → TpJudged → Type 0
-Judges p seg room (Good h) = Passed p seg room h
-Judges p seg room (Refused r) = judged p seg room ≡ refused (said r)
+abbrev pub Judges : State → List ℕ → ℕ → SegmentAnswer → Type 0
+Judges p seg room (segment.Good h) = Passed p seg room h
+Judges p seg room (segment.Refused r) = judged p seg room ≡ refused (said r)

@@ -5,11 +5,8 @@ use lib.ListN.{length, take, replicate}
 use Rattle.tp_machine.specs.declared.TpRange.{TpRange}
 use Rattle.tp_machine.specs.declared.TpEnd.the-variants.{Unknown}
 use Rattle.tp_machine.specs.Machine.{most, State}
-use Rattle.tp_range.specs.Joining.{placed}
+use Rattle.tp_range.specs.Joining.{none, placed}
 use Rattle.tp_stream.specs.declared.TpStream.{TpStream}
-
-abbrev pub none : TpRange
-none = record { start = 0; end = 0 }
 
 -- the first n of an array's places; a count past its end is seen by as many ranges more
 unfoldable pub held : ℕ → List TpRange → List TpRange

@@ -1,23 +1,29 @@
-// The tests before a stream is begun (36) and before a segment is joined, in document 01's order: 38, 30, 31, 32, 33, 34. Each rule is a function.
+// The test before a stream is begun (36), and those before a segment is joined, in document 01's order: 38, 30, 31, 32, 33, 34. Each rule is a
+// function.
 ghost use mathlib.Core.Path.{_≡_};
 ghost use mathlib.Core.Bool.{_&&_, not};
 ghost use Prim.Native.Nat.{_+_, _%_};
 ghost use lib.Dec.{eqb, ltb};
-ghost use Rattle.tp_machine.specs.Machine.{conflicts, previous, begun as begun-of, begin};
-ghost use Rattle.tp_stream.specs.Saying.{answerOf};
+ghost use Rattle.tp_machine.specs.Machine.{begun as begun-of, conflicts, previous};
+ghost use Rattle.refusal.specs.Said.{verdict-said};
 ghost use Rattle.tp_stream.specs.Stream.{view};
 ghost use Rattle.tp_stream.specs.Promises.{Judges};
-use crate::TpAnswer;
-use crate::TpRefusal;
 use crate::TpStream;
+use refusal::Refusal;
+use refusal::Verdict;
 use tp_machine::TpEnd;
+use tp_segment::HEADER_LEN;
+use tp_segment::SegmentAnswer;
 use tp_segment::TpHeader;
-use tp_segment::TpSegment;
 
-// What judging answers: the segment's header, or the first refusal.
-pub(crate) enum TpJudged {
-    Good(TpHeader),
-    Refused(TpRefusal),
+// 36, or a stream of that limit may begin.
+pub(crate) fn begun(limit: u32) -> Verdict
+    ensures { λ r. ⌜ verdict-said r ≡ begun-of limit ⌝ }
+{
+    if crate::MAX_LIMIT < limit {
+        return Verdict::Refused(Refusal::LimitTooLarge(limit));
+    }
+    Verdict::Passed
 }
 
 // 31: whether the segment ends past the limit.
@@ -59,7 +65,7 @@ fn conflicting(end: TpEnd, more: bool, x: u32) -> bool
 }
 
 // The end that is known, or 0.
-fn previous_end(end: TpEnd) -> u32
+pub fn previous_end(end: TpEnd) -> u32
     ensures { λ r. ⌜ r ≡ previous end ⌝ }
 {
     match end {
@@ -68,64 +74,45 @@ fn previous_end(end: TpEnd) -> u32
     }
 }
 
-// 34: whether a buffer of `room` bytes is too short for a payload that ends at x.
-pub(crate) fn too_short(room: usize, x: u32) -> bool
-    ensures { λ r. ⌜ r ≡ ltb room (16 + x) ⌝ }
+// 34: how long a buffer must be for a payload that ends at x.
+pub(crate) fn needed(x: u32) -> usize
+    ensures { λ r. ⌜ r ≡ 16 + x ⌝ }
 {
-    room < 16 + x as usize
-}
-
-// 36, or a stream of that limit may begin.
-pub(crate) fn begun(limit: u32) -> TpAnswer
-    ensures { λ r. ⌜ answerOf r ≡ begun-of limit ⌝ }
-{
-    if crate::MAX_LIMIT < limit {
-        return TpAnswer::Refused(TpRefusal::LimitTooLarge { limit });
-    }
-    TpAnswer::Accepted
-}
-
-// The limit of a stream that is begun with that one.
-pub(crate) fn granted(limit: u32) -> u32
-    ensures { λ r. ⌜ r ≡ begin limit .limit ⌝ }
-{
-    if crate::MAX_LIMIT < limit {
-        return 0;
-    }
-    limit
+    HEADER_LEN + x as usize
 }
 
 // The first refusal of a segment for a buffer of `room` bytes, the one after joining aside; or its header.
-pub(crate) fn judge(s: TpStream, seg: &[u8], room: usize) -> TpJudged
+pub(crate) fn judge(s: TpStream, seg: &[u8], room: usize) -> SegmentAnswer
     ensures { λ r. ⌜ Judges (view s) (now (seg .entry)) room r ⌝ }
 {
     if crate::malformed::malformed(s) {
-        return TpJudged::Refused(TpRefusal::MalformedState);
+        return SegmentAnswer::Refused(Refusal::MalformedState);
     }
-    let TpSegment::Good(header) = tp_segment::read(seg) else {
-        return TpJudged::Refused(TpRefusal::NotASegment);
+    let answer = tp_segment::read(seg);
+    let SegmentAnswer::Good(header) = answer else {
+        return answer;
     };
     let offset = header.offset;
     let length = header.size;
     if too_big(s.limit, header) {
-        return TpJudged::Refused(TpRefusal::SegmentTooBig {
+        return SegmentAnswer::Refused(Refusal::SegmentTooBig {
             offset,
             length,
             max: s.limit,
         });
     }
     if not_aligned(header) {
-        return TpJudged::Refused(TpRefusal::Unaligned { offset, length });
+        return SegmentAnswer::Refused(Refusal::UnalignedTpPayloadLen { offset, length });
     }
     let new = offset + length as u32;
     let end = s.end;
     if conflicting(end, header.more, new) {
         let previous = previous_end(end);
-        return TpJudged::Refused(TpRefusal::ConflictingEnd { previous, new });
+        return SegmentAnswer::Refused(Refusal::ConflictingEnd { previous, new });
     }
-    if too_short(room, new) {
-        let needed = 16 + new as usize;
-        return TpJudged::Refused(TpRefusal::BufferTooShort { needed });
+    let needed = needed(new);
+    if room < needed {
+        return SegmentAnswer::Refused(Refusal::BufferTooShort(needed));
     }
-    TpJudged::Good(header)
+    answer
 }

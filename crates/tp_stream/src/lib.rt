@@ -3,19 +3,26 @@ ghost use mathlib.Core.Path.{_≡_};
 ghost use mathlib.Core.Bool.{cond};
 ghost use lib.ListN.{length};
 ghost use Rattle.tp_machine.specs.declared.TpEnd.the-variants.{Known};
-ghost use Rattle.tp_machine.specs.Machine.{clear as clear-of};
+ghost use Rattle.tp_machine.specs.Machine.{fresh as fresh-of, clear as clear-of};
 ghost use Rattle.tp_machine.specs.Taking.{complete as complete-of, ready as ready-of, report as report-of};
-ghost use Rattle.tp_stream.specs.Stream.{view, stored};
+ghost use Rattle.tp_stream.specs.Stream.{view, stored, blank};
 ghost use Rattle.tp_stream.specs.Promises.{Passed, Began, Ran, Took};
+use refusal::Count;
+use refusal::Refusal;
+use refusal::Verdict;
 use tp_machine::TpEnd;
 use tp_machine::TpRange;
 use tp_range::MAX_RANGES;
+use tp_segment::HEADER_LEN;
+use tp_segment::SegmentAnswer;
 use tp_segment::TpHeader;
 
 mod malformed; // malformed.rt: answer 38
-mod judging; // judging.rt: answers 38 and 30 to 34 of a segment, and 36
+mod judging; // judging.rt: answer 36, and answers 38 and 30 to 34 of a segment
 mod writing; // writing.rt: what is written into the buffer
 mod taking; // taking.rt: answers 38, 37 and 34 of taking
+
+pub use judging::previous_end;
 
 // The highest payload limit.
 pub const MAX_LIMIT: u32 = 65520;
@@ -28,65 +35,40 @@ pub struct TpStream {
     pub end: TpEnd,
 }
 
-// What a stream refuses, with document 01's values.
-pub enum TpRefusal {
-    NotASegment,
-    SegmentTooBig {
-        offset: u32,
-        length: usize,
-        max: u32,
-    },
-    Unaligned {
-        offset: u32,
-        length: usize,
-    },
-    ConflictingEnd {
-        previous: u32,
-        new: u32,
-    },
-    BufferTooShort {
-        needed: usize,
-    },
-    RangesFull,
-    LimitTooLarge {
-        limit: u32,
-    },
-    NotComplete,
-    MalformedState,
-}
-
-// What beginning and consuming answer.
-pub enum TpAnswer {
-    Accepted,
-    Refused(TpRefusal),
-}
-
 // What a call gives back: its answer, and the state after it.
 pub struct TpStep {
-    pub answer: TpAnswer,
+    pub answer: Verdict,
     pub stream: TpStream,
 }
 
-// What taking answers: where the report's payload ends, or a refusal.
-pub enum TpTaken {
-    Report(u32),
-    Refused(TpRefusal),
+// A stream that holds nothing.
+fn fresh(limit: u32) -> TpStream
+    ensures { λ r. ⌜ r ≡ stored blank (fresh-of limit) ⌝ }
+{
+    let none = TpRange { start: 0, end: 0 };
+    let ranges = [none; MAX_RANGES];
+    TpStream {
+        limit,
+        ranges,
+        count: 0,
+        end: TpEnd::Unknown,
+    }
 }
 
 // A fresh stream of that payload limit; or answer 36, and one of limit 0.
 pub fn begin(limit: u32) -> TpStep
     ensures { λ r. ⌜ Began limit r ⌝ }
 {
-    let none = TpRange { start: 0, end: 0 };
-    let ranges = [none; MAX_RANGES];
+    let answer = judging::begun(limit);
+    let Verdict::Passed = answer else {
+        return TpStep {
+            answer,
+            stream: fresh(0),
+        };
+    };
     TpStep {
-        answer: judging::begun(limit),
-        stream: TpStream {
-            limit: judging::granted(limit),
-            ranges,
-            count: 0,
-            end: TpEnd::Unknown,
-        },
+        answer,
+        stream: fresh(limit),
     }
 }
 
@@ -95,13 +77,13 @@ pub fn consume(s: TpStream, seg: &[u8], buf: &mut [u8]) -> TpStep
     ensures { λ r. ⌜ Ran s (now (seg .entry)) (now (buf .entry)) r (now (buf .exit)) ⌝ }
 {
     let judged = judging::judge(s, seg, buf.len());
-    match judged {
-        judging::TpJudged::Refused(refusal) => TpStep {
-            answer: TpAnswer::Refused(refusal),
+    let SegmentAnswer::Good(header) = judged else {
+        return TpStep {
+            answer: Verdict::Refused(judged.refusal()),
             stream: s,
-        },
-        judging::TpJudged::Good(header) => accept(s, seg, buf, header),
-    }
+        };
+    };
+    accept(s, seg, buf, header)
 }
 
 // Answer 35, or a segment that passed all other tests is joined and written.
@@ -117,7 +99,7 @@ fn accept(s: TpStream, seg: &[u8], buf: &mut [u8], header: TpHeader) -> TpStep
     let joined = tp_range::join(held, s.count, new);
     if joined.full {
         return TpStep {
-            answer: TpAnswer::Refused(TpRefusal::RangesFull),
+            answer: Verdict::Refused(Refusal::RangesFull),
             stream: s,
         };
     }
@@ -126,7 +108,7 @@ fn accept(s: TpStream, seg: &[u8], buf: &mut [u8], header: TpHeader) -> TpStep
     let before = s.end;
     let end = end_after(before, header.more, new.end);
     TpStep {
-        answer: TpAnswer::Accepted,
+        answer: Verdict::Passed,
         stream: TpStream {
             limit: s.limit,
             ranges,
@@ -157,24 +139,25 @@ pub fn complete(s: TpStream) -> bool
 }
 
 // Taking the report: answers 38, 37 and 34, or the length field is written and where the payload ends is told.
-pub fn take(s: TpStream, buf: &mut [u8]) -> TpTaken
+pub fn take(s: TpStream, buf: &mut [u8]) -> Count
     ensures { λ r. ⌜ Took s (now (buf .entry)) r (now (buf .exit)) ⌝ }
 {
-    let taken = taking::ready(s, buf.len());
-    if let TpTaken::Report(end) = taken {
-        writing::put_length(buf, end);
-    }
-    taken
+    let answer = taking::ready(s, buf.len());
+    let Count::Good(end) = answer else {
+        return answer;
+    };
+    writing::put_length(buf, end);
+    answer
 }
 
 // The report as a part of the buffer, where taking is not refused; else an empty part.
 pub fn report(s: TpStream, buf: &[u8]) -> &[u8]
     ensures { λ r. ⌜ now r ≡ report-of (ready-of (view s) (length (now (buf .entry)))) (now (buf .entry)) ⌝ }
 {
-    let TpTaken::Report(end) = taking::ready(s, buf.len()) else {
+    let Count::Good(end) = taking::ready(s, buf.len()) else {
         return &buf[..0];
     };
-    let n = 16 + end as usize;
+    let n = HEADER_LEN + end;
     &buf[..n]
 }
 

@@ -1,12 +1,12 @@
 // Whether a stream's report can be taken: answers 38, 37, 34.
 ghost use mathlib.Core.Path.{_≡_};
 ghost use mathlib.Core.Bool.{_&&_};
+ghost use Rattle.refusal.specs.Said.{count-said};
 ghost use Rattle.tp_machine.specs.Taking.{is-known, whole as whole-of, ready as ready-of};
 ghost use Rattle.tp_stream.specs.Stream.{view};
-ghost use Rattle.tp_stream.specs.Saying.{takenOf};
-use crate::TpRefusal;
 use crate::TpStream;
-use crate::TpTaken;
+use refusal::Count;
+use refusal::Refusal;
 use tp_machine::TpEnd;
 
 // Whether an end is known, and there is exactly one range, beginning at 0.
@@ -26,20 +26,20 @@ pub(crate) fn whole(s: TpStream) -> bool
 }
 
 // Answers 38, 37 and 34 for a buffer of `room` bytes, or where the one range ends.
-pub(crate) fn ready(s: TpStream, room: usize) -> TpTaken
-    ensures { λ r. ⌜ takenOf r ≡ ready-of (view s) room ⌝ }
+pub(crate) fn ready(s: TpStream, room: usize) -> Count
+    ensures { λ r. ⌜ count-said r ≡ ready-of (view s) room ⌝ }
 {
     if crate::malformed::malformed(s) {
-        return TpTaken::Refused(TpRefusal::MalformedState);
+        return Count::Refused(Refusal::MalformedState);
     }
     if whole(s) {
         let ranges = s.ranges;
         let first = ranges[0];
-        if crate::judging::too_short(room, first.end) {
-            let needed = 16 + first.end as usize;
-            return TpTaken::Refused(TpRefusal::BufferTooShort { needed });
+        let needed = crate::judging::needed(first.end);
+        if room < needed {
+            return Count::Refused(Refusal::BufferTooShort(needed));
         }
-        return TpTaken::Report(first.end);
+        return Count::Good(first.end as usize);
     }
-    TpTaken::Refused(TpRefusal::NotComplete)
+    Count::Refused(Refusal::NotComplete)
 }

@@ -5,6 +5,8 @@ ghost use lib.ListN.{length};
 ghost use Rattle.numbers.specs.Bytes.{be32};
 ghost use Rattle.tp_machine.specs.Machine.{highest};
 ghost use Rattle.tp_machine.specs.Segments.{offset as offset-of, end-of, without-tp, header, pasted, written};
+use tp_segment::HEADER_LEN;
+use tp_segment::SEGMENT_HEADER_LEN;
 
 // Copies src into buf from index `at`.
 fn put(buf: &mut [u8], at: usize, src: &[u8])
@@ -30,7 +32,7 @@ fn put_header(buf: &mut [u8], seg: &[u8])
     requires { ⌜ (16 ≤ length (now seg)) × (16 ≤ length (now buf)) ⌝ }
     ensures { λ _. ⌜ now (buf .exit) ≡ pasted (now (buf .entry)) 0 (header (now (seg .entry))) ⌝ }
 {
-    put(buf, 0, &seg[..16]);
+    put(buf, 0, &seg[..HEADER_LEN]);
     buf[14] = without_tp(seg[14]);
 }
 
@@ -42,11 +44,11 @@ pub(crate) fn write(buf: &mut [u8], seg: &[u8], offset: usize)
     if offset == 0 {
         put_header(buf, seg);
     }
-    put(buf, 16 + offset, &seg[20..]);
+    put(buf, HEADER_LEN + offset, &seg[SEGMENT_HEADER_LEN..]);
 }
 
 // The length field, bytes 4 to 7, of a report whose payload ends at `end`.
-pub(crate) fn put_length(buf: &mut [u8], end: u32)
+pub(crate) fn put_length(buf: &mut [u8], end: usize)
     requires { ⌜ (8 ≤ length (now buf)) × (end ≤ highest) ⌝ }
     ensures { λ _. ⌜ now (buf .exit) ≡ pasted (now (buf .entry)) 4 (be32 (end + 8)) ⌝ }
 {

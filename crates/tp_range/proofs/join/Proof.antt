@@ -11,8 +11,8 @@ use lib.ListN.{length, take, getD, set, length-append, length-set}
 use Rattle.tp_machine.specs.declared.TpRange.{TpRange}
 use Rattle.tp_machine.specs.Machine.{most}
 use Rattle.tp_machine.specs.Ranges.{touch, hull-of, keep, grow}
-use Rattle.tp_range.specs.Joining.{joined-in}
-use Rattle.tp_range.proofs.Laws.{none, over, over-snoc, keep-touched, keep-apart, grow-touched, grow-apart, joined-room, joined-full}
+use Rattle.tp_range.specs.Joining.{none, joined-in}
+use Rattle.tp_range.proofs.Laws.{over, over-snoc, keep-touched, keep-apart, grow-touched, grow-apart, joined-room, joined-full}
 use Rattle.tp_range.proofs.join.Statement.{statement}
 use Rattle.tp_range.proofs.join.Tie as tie
 
@@ -57,23 +57,11 @@ loop-holds : tie.Need-loop-holds Inv-loop μ-loop
 unfolding keep grow
 loop-holds c = record { upto = omega arith; few = omega arith; long = long (c .before); counts = refl; lays = refl; grows = refl }
 
-mul-r : tie.Need-mul-r Inv-loop μ-loop
-mul-r c = search needs
-
-array-copy-out-r : tie.Need-array-copy-out-r Inv-loop μ-loop
-array-copy-out-r c = search needs
-
-add-i : tie.Need-add-i Inv-loop μ-loop
-add-i c = search needs
-
 touches-requires : tie.Need-touches-requires Inv-loop μ-loop
 touches-requires c κs = tt
 
 hull-requires : tie.Need-hull-requires Inv-loop μ-loop
 hull-requires c κs = tt
-
-loop-less : tie.Need-loop-less Inv-loop μ-loop
-loop-less c = search needs
 
 loop-again : tie.Need-loop-again Inv-loop μ-loop
 loop-again c =
@@ -92,18 +80,6 @@ loop-again c =
       lays = inv .lays ∙ sym (ap (λ (l : List TpRange). over l (at-start .args .t1)) k);
       grows = c .hull .ensures ∙ ap (λ (g : TpRange). hull-of g (getD (at-start .args .t1) (at-loop .loop .i) none)) (inv .grows) ∙ sym (grow-touched _ _ _ none h _ e);
     }
-
-mul-out : tie.Need-mul-out Inv-loop μ-loop
-mul-out c = search needs
-
-array-set-from-out : tie.Need-array-set-from-out Inv-loop μ-loop
-array-set-from-out c = search needs
-
-add-kept : tie.Need-add-kept Inv-loop μ-loop
-add-kept c = search needs
-
-loop-less-2 : tie.Need-loop-less-2 Inv-loop μ-loop
-loop-less-2 c = search needs
 
 loop-again-2 : tie.Need-loop-again-2 Inv-loop μ-loop
 loop-again-2 c =
@@ -126,15 +102,6 @@ loop-again-2 c =
       grows = inv .grows ∙ sym (grow-apart _ _ _ none h _ e);
     }
 
-mul-out-2 : tie.Need-mul-out-2 Inv-loop μ-loop
-mul-out-2 c = search needs
-
-array-set-from-out-2 : tie.Need-array-set-from-out-2 Inv-loop μ-loop
-array-set-from-out-2 c = search needs
-
-add-t22 : tie.Need-add-t22 Inv-loop μ-loop
-add-t22 c = search needs
-
 returns : tie.Need-returns Inv-loop μ-loop
 returns c =
     let at-loop = c .before .before in
@@ -155,20 +122,20 @@ join-spec =
     μ-loop
     places-requires
     loop-holds
-    mul-r
-    array-copy-out-r
-    add-i
+    (λ c. search needs)
+    (λ c. search needs)
+    (λ c. search needs)
     touches-requires
     hull-requires
-    loop-less
+    (λ c. search needs)
     loop-again
-    mul-out
-    array-set-from-out
-    add-kept
-    loop-less-2
+    (λ c. search needs)
+    (λ c. search needs)
+    (λ c. search needs)
+    (λ c. search needs)
     loop-again-2
-    mul-out-2
-    array-set-from-out-2
-    add-t22
+    (λ c. search needs)
+    (λ c. search needs)
+    (λ c. search needs)
     returns
     returns-2)

@@ -6,7 +6,8 @@ use native.Mathlib.Omega.{arith}
 use lib.ListN.{length, take, drop}
 use Rattle.tp_machine.specs.Machine.{most}
 use Rattle.tp_machine.specs.Ranges.{any, touch, some-touch}
-use Rattle.tp_range.proofs.Laws.{none, take-places, any-hit, any-miss, any-end, touch-hit, touch-miss, touch-end}
+use Rattle.tp_range.specs.Joining.{none}
+use Rattle.tp_range.proofs.Laws.{take-places, any-hit, any-miss, any-end, touch-hit, touch-miss, touch-end}
 use Rattle.tp_range.proofs.some_touch.Statement.{statement}
 use Rattle.tp_range.proofs.some_touch.Tie as tie
 
@@ -35,20 +36,8 @@ places-requires c κs = tt
 loop-holds : tie.Need-loop-holds Inv-loop2 μ-loop2 Inv-loop μ-loop
 loop-holds c = ap some-touch (ap (λ (n : ℕ). take n (c .before .args .t1)) (c .places .ensures) ∙ take-places (c .before .args .t1) (c .before .args .count) (long (c .before)))
 
-mul-r : tie.Need-mul-r Inv-loop2 μ-loop2 Inv-loop μ-loop
-mul-r c = search needs
-
-array-copy-out-r : tie.Need-array-copy-out-r Inv-loop2 μ-loop2 Inv-loop μ-loop
-array-copy-out-r c = search needs
-
-add-i : tie.Need-add-i Inv-loop2 μ-loop2 Inv-loop μ-loop
-add-i c = search needs
-
 loop2-holds : tie.Need-loop2-holds Inv-loop2 μ-loop2 Inv-loop μ-loop
 loop2-holds c = refl
-
-loop-less : tie.Need-loop-less Inv-loop2 μ-loop2 Inv-loop μ-loop
-loop-less c = search needs
 
 loop-again : tie.Need-loop-again Inv-loop2 μ-loop2 Inv-loop μ-loop
 loop-again c =
@@ -56,12 +45,6 @@ loop-again c =
     let at-test = at-inner .before .before in
     touch-miss _ _ _ none (at-test .loop-test .taken) (fits (at-test .before .before)) (sym (at-inner .loop2 .inv) ∙ any-end _ _ _ _ (c .loop2-test .left))
     ∙ at-test .before .loop .inv
-
-mul-touches : tie.Need-mul-touches Inv-loop2 μ-loop2 Inv-loop μ-loop
-mul-touches c = search needs
-
-array-copy-out-touches : tie.Need-array-copy-out-touches Inv-loop2 μ-loop2 Inv-loop μ-loop
-array-copy-out-touches c = search needs
 
 touches-requires : tie.Need-touches-requires Inv-loop2 μ-loop2 Inv-loop μ-loop
 touches-requires c κs = tt
@@ -75,12 +58,6 @@ returns c =
     let start = at-test .before .before in
     let one = sym (at-inner .loop2 .inv) ∙ any-hit _ _ _ none (at-inner-test .loop2-test .taken) (fits start) _ (sym (at-touches .touches .ensures) ∙ c .if1 .taken) in
     sym (touch-hit _ _ _ none (at-test .loop-test .taken) (fits start) one) ∙ at-test .before .loop .inv
-
-add-j : tie.Need-add-j Inv-loop2 μ-loop2 Inv-loop μ-loop
-add-j c = search needs
-
-loop2-less : tie.Need-loop2-less Inv-loop2 μ-loop2 Inv-loop μ-loop
-loop2-less c = search needs
 
 loop2-again : tie.Need-loop2-again Inv-loop2 μ-loop2 Inv-loop μ-loop
 loop2-again c =
@@ -103,17 +80,17 @@ some-touch-spec =
     μ-loop
     places-requires
     loop-holds
-    mul-r
-    array-copy-out-r
-    add-i
+    (λ c. search needs)
+    (λ c. search needs)
+    (λ c. search needs)
     loop2-holds
-    loop-less
+    (λ c. search needs)
     loop-again
-    mul-touches
-    array-copy-out-touches
+    (λ c. search needs)
+    (λ c. search needs)
     touches-requires
     returns
-    add-j
-    loop2-less
+    (λ c. search needs)
+    (λ c. search needs)
     loop2-again
     returns-2)

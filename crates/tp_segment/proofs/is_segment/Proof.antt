@@ -24,46 +24,16 @@ module _ (c : tie.After-be32) where
 returns : tie.Need-returns
 returns c = sym (is-short _ (c .if1 .taken))
 
-shared-slice-read-be32 : tie.Need-shared-slice-read-be32
-shared-slice-read-be32 c = search needs
-
-shared-slice-read-be32-2 : tie.Need-shared-slice-read-be32-2
-shared-slice-read-be32-2 c = search needs
-
-shared-slice-read-be32-3 : tie.Need-shared-slice-read-be32-3
-shared-slice-read-be32-3 c = search needs
-
-shared-slice-read-be32-4 : tie.Need-shared-slice-read-be32-4
-shared-slice-read-be32-4 c = search needs
-
-be32-requires : tie.Need-be32-requires
-be32-requires c κs = search needs
-
-cast-field : tie.Need-cast-field
-cast-field c = search needs
-
-sub-if2 : tie.Need-sub-if2
-sub-if2 c = search needs
-
 returns-2 : tie.Need-returns-2
 returns-2 c =
     let at-word = c .before in
     sym (is-length _ (long at-word) (λ e. c .if2 .taken (field at-word ∙ e)))
-
-shared-slice-read-if3 : tie.Need-shared-slice-read-if3
-shared-slice-read-if3 c = search needs
 
 returns-3 : tie.Need-returns-3
 returns-3 c =
     let at-second = c .before .before in
     let at-word = at-second .before in
     sym (is-version _ (long at-word) (sym (field at-word) ∙ at-second .if2 .left) (c .if3 .taken))
-
-shared-slice-read-tp-type : tie.Need-shared-slice-read-tp-type
-shared-slice-read-tp-type c = search needs
-
-tp-type-requires : tie.Need-tp-type-requires
-tp-type-requires c κs = search needs
 
 returns-4 : tie.Need-returns-4
 returns-4 c =
@@ -77,16 +47,16 @@ is-segment-spec =
     tie.close
     (tie.spec
     returns
-    shared-slice-read-be32
-    shared-slice-read-be32-2
-    shared-slice-read-be32-3
-    shared-slice-read-be32-4
-    be32-requires
-    cast-field
-    sub-if2
+    (λ c. search needs)
+    (λ c. search needs)
+    (λ c. search needs)
+    (λ c. search needs)
+    (λ c κs. search needs)
+    (λ c. search needs)
+    (λ c. search needs)
     returns-2
-    shared-slice-read-if3
+    (λ c. search needs)
     returns-3
-    shared-slice-read-tp-type
-    tp-type-requires
+    (λ c. search needs)
+    (λ c κs. search needs)
     returns-4)

@@ -4,21 +4,19 @@ use mathlib.Core.Path.{_≡_, sym, _∙_}
 use lib.ListN.{length}
 use native.Mathlib.Omega.{arith}
 use Rattle.numbers.specs.Bytes.{at16, at32}
-use Rattle.tp_segment.proofs.Laws.{is-long, reads-not, reads-good}
+use Rattle.tp_machine.proofs.Tests.{segment-means}
+use Rattle.tp_segment.proofs.Laws.{reads-not, reads-good}
 use borrow.Author.Needs.{needs}
 use Rattle.tp_segment.proofs.read.Statement.{statement}
 use Rattle.tp_segment.proofs.read.Tie as tie
 
 -- a segment has its 20 bytes
 long : (c : tie.Then1) → 20 ≤ length (c .before .before .before .args .s .now)
-long c = is-long _ (sym (c .before .is-segment .ensures) ∙ c .if1 .taken)
+long c = segment-means _ .0 (sym (c .before .is-segment .ensures) ∙ c .if1 .taken) .long
 
 word-is : (c : tie.After-be32) → c .be32 .result ≡ at32 (c .before .before .before .before .before .before .before .before .args .s .now) 16
 unfolding at32 at16
 word-is c = c .be32 .ensures
-
-is-segment-requires : tie.Need-is-segment-requires
-is-segment-requires c κs = search needs
 
 shared-slice-read-be32 : tie.Need-shared-slice-read-be32
 shared-slice-read-be32 c = omega (arith, long (c .before))
@@ -31,12 +29,6 @@ shared-slice-read-be32-3 c = omega (arith, long (c .before .before .before))
 
 shared-slice-read-be32-4 : tie.Need-shared-slice-read-be32-4
 shared-slice-read-be32-4 c = omega (arith, long (c .before .before .before .before))
-
-be32-requires : tie.Need-be32-requires
-be32-requires c κs = search needs
-
-sub-t13 : tie.Need-sub-t13
-sub-t13 c = search needs
 
 sub-t17 : tie.Need-sub-t17
 sub-t17 c = omega (arith, long (c .before .before .before .before .before))
@@ -53,13 +45,13 @@ pub read-spec : {M : Type 1} → statement M
 read-spec =
     tie.close
     (tie.spec
-    is-segment-requires
+    (λ c κs. search needs)
     shared-slice-read-be32
     shared-slice-read-be32-2
     shared-slice-read-be32-3
     shared-slice-read-be32-4
-    be32-requires
-    sub-t13
+    (λ c κs. search needs)
+    (λ c. search needs)
     sub-t17
     returns
     returns-2)

@@ -24,28 +24,16 @@ cast-t11 c = omega (arith, small (c .before .before .before))
 add-t12 : tie.Need-add-t12
 add-t12 c = omega (arith, small (c .before .before .before .before))
 
-join-requires : tie.Need-join-requires
-join-requires c κs = search needs
-
 returns : tie.Need-returns
 returns c =
     let at-join = c .before in
     let at-start = at-join .before .before .before .before .before .before in
     ran-full (at-start .args .s) (at-start .args .seg .now) (at-start .args .buf .now) (at-start .args .header) (at-start .pre) (long at-start) _ (at-join .join .ensures) (c .if1 .taken)
 
-cast-write : tie.Need-cast-write
-cast-write c = search needs
-
 write-requires : tie.Need-write-requires
 write-requires c κs =
     let at-start = c .before .before .before .before .before .before .before .before .before in
     (at-start .pre .long, ap (λ (h : TpHeader). h .offset) (at-start .pre .header), at-start .pre .fits)
-
-end-after-requires : tie.Need-end-after-requires
-end-after-requires c κs = search needs
-
-same-length : tie.Need-same-length
-same-length c = search needs
 
 returns-2 : tie.Need-returns-2
 returns-2 c =
@@ -62,10 +50,10 @@ accept-spec =
     (tie.spec
     cast-t11
     add-t12
-    join-requires
+    (λ c κs. search needs)
     returns
-    cast-write
+    (λ c. search needs)
     write-requires
-    end-after-requires
-    same-length
+    (λ c κs. search needs)
+    (λ c. search needs)
     returns-2)

@@ -6,14 +6,8 @@ use borrow.Author.Needs.{needs}
 use Rattle.tp_stream.proofs.complete.Statement.{statement}
 use Rattle.tp_stream.proofs.complete.Tie as tie
 
-malformed-requires : tie.Need-malformed-requires
-malformed-requires c κs = search needs
-
 returns : tie.Need-returns
 returns c = not-complete-bad _ (sym (c .before .malformed .ensures) ∙ c .if1 .taken)
-
-whole-requires : tie.Need-whole-requires
-whole-requires c κs = search needs
 
 returns-2 : tie.Need-returns-2
 returns-2 c =
@@ -21,4 +15,10 @@ returns-2 c =
     c .whole .ensures ∙ complete-whole (view (at-first .before .before .args .s)) 0 (sym (at-first .before .malformed .ensures) ∙ at-first .if1 .left)
 
 pub complete-spec : {M : Type 1} → statement M
-complete-spec = tie.close (tie.spec malformed-requires returns whole-requires returns-2)
+complete-spec =
+    tie.close
+    (tie.spec
+    (λ c κs. search needs)
+    returns
+    (λ c κs. search needs)
+    returns-2)

@@ -3,11 +3,12 @@ use borrow.Author.Needs.{needs}
 use Rattle.tp_stream.proofs.end_after.Statement.{statement}
 use Rattle.tp_stream.proofs.end_after.Tie as tie
 
-returns : tie.Need-returns
-returns c = search needs
-
 returns-2 : tie.Need-returns-2
 returns-2 c = rw (c .if1 .left)
 
 pub end-after-spec : {M : Type 1} → statement M
-end-after-spec = tie.close (tie.spec returns returns-2)
+end-after-spec =
+    tie.close
+    (tie.spec
+    (λ c. search needs)
+    returns-2)

@@ -5,24 +5,22 @@ use borrow.Author.Needs.{needs}
 use Rattle.tp_stream.proofs.judging.conflicting.Statement.{statement}
 use Rattle.tp_stream.proofs.judging.conflicting.Tie as tie
 
-enum-told : tie.Need-enum-told
-enum-told c = search needs
-
-enum-known-end : tie.Need-enum-known-end
-enum-known-end c = search needs
-
 returns : tie.Need-returns
 returns c = sym (conflict-past _ _ _ _ (c .before .before .end .given .1) (c .if1 .taken))
 
 returns-2 : tie.Need-returns-2
 returns-2 c = sym (conflict-more _ _ _ _ (c .before .before .before .end .given .1) (c .before .if1 .left) (c .if2 .taken))
 
-returns-3 : tie.Need-returns-3
-returns-3 c = search needs
-
 returns-4 : tie.Need-returns-4
 returns-4 c = sym (conflict-last _ _ _ _ (c .before .before .before .end .given .1) (c .before .if1 .left) (c .if2 .left))
 
 pub conflicting-spec : {M : Type 1} → statement M
 conflicting-spec =
-    tie.close (tie.spec enum-told enum-known-end returns returns-2 returns-3 returns-4)
+    tie.close
+    (tie.spec
+    (λ c. search needs)
+    (λ c. search needs)
+    returns
+    returns-2
+    (λ c. search needs)
+    returns-4)

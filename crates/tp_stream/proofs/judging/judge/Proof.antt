@@ -8,11 +8,11 @@ use Rattle.numbers.specs.Refusals.{conflicting-end}
 use Rattle.numbers.specs.Answers.{refused}
 use Rattle.tp_machine.specs.Machine.{highest, bad-state}
 use Rattle.tp_segment.specs.declared.TpHeader.{TpHeader}
-use Rattle.tp_segment.specs.Reading.{told}
-use Rattle.tp_segment.proofs.Laws.{reading-not, reading-good}
+use Rattle.tp_segment.specs.Reading.{segment-said}
+use Rattle.tp_segment.proofs.Laws.{reading-good}
 use Rattle.tp_stream.specs.Stream.{view}
-use Rattle.tp_stream.proofs.MalformedLaws.{sound}
-use Rattle.tp_stream.proofs.JudgingLaws.{judged-malformed, judged-not, past, uneven, Decides, decides}
+use Rattle.tp_machine.proofs.Tests.{good-means}
+use Rattle.tp_stream.proofs.JudgingLaws.{judged-malformed, judged-unread, past, uneven, Decides, decides}
 use borrow.Author.Needs.{needs}
 use Rattle.tp_stream.proofs.judging.judge.Statement.{statement}
 use Rattle.tp_stream.proofs.judging.judge.Tie as tie
@@ -30,11 +30,11 @@ module _ (c : tie.After-known-told) where
   start = at-read .before .before .before .before
 
   abbrev header-read : TpHeader
-  header-read = c .before .header .given .0 .0
+  header-read = c .before .answer .given .0 .0
 
   by-tests : Decides (view (start .args .s)) (start .args .seg .now) (start .args .room) header-read
   by-tests =
-      let read = reading-good (start .args .seg .now) header-read (ap told (sym (c .before .header .given .1)) ∙ at-read .read .ensures) in
+      let read = reading-good (start .args .seg .now) header-read (ap segment-said (sym (c .before .answer .given .1)) ∙ at-read .read .ensures) in
       decides _ _ _ (good (at-read .before)) (read .0) header-read (read .1)
 
 within : (c : tie.Else2) → past (view (start (c .before .before) .args .s)) (header-read (c .before .before)) ≡ false
@@ -44,39 +44,21 @@ small : (c : tie.Else2) → header-read (c .before .before) .offset + header-rea
 small c =
     let s = start (c .before .before) .args .s in
     let h = header-read (c .before .before) in
-    omega (arith, ltb-false (s .limit) (h .offset + h .size) (within c), sound (view s) (good (at-read (c .before .before) .before)) .low)
+    omega (arith, ltb-false (s .limit) (h .offset + h .size) (within c), good-means (view s) .0 (good (at-read (c .before .before) .before)) .low)
 
 aligned : (c : tie.Else3) → uneven (header-read (c .before .before .before .before)) ≡ false
 aligned c = sym (c .before .not-aligned .ensures) ∙ c .if3 .left
 
-malformed-requires : tie.Need-malformed-requires
-malformed-requires c κs = search needs
-
 returns : tie.Need-returns
 returns c = judged-malformed _ _ _ (sym (c .before .malformed .ensures) ∙ c .if1 .taken)
-
-read-requires : tie.Need-read-requires
-read-requires c κs = search needs
-
-enum-known-header : tie.Need-enum-known-header
-enum-known-header c = search needs
-
-enum-told : tie.Need-enum-told
-enum-told c = search needs
 
 returns-2 : tie.Need-returns-2
 returns-2 c =
     let at-read = c .before .before in
-    judged-not _ _ _ (good (at-read .before)) (reading-not _ (ap told (sym (c .enum-told .given .1)) ∙ at-read .read .ensures))
-
-too-big-requires : tie.Need-too-big-requires
-too-big-requires c κs = search needs
+    judged-unread _ _ _ (good (at-read .before)) _ _ (c .enum-told .given .1) (at-read .read .ensures)
 
 returns-3 : tie.Need-returns-3
 returns-3 c = by-tests (c .before .before) .big (sym (c .before .too-big .ensures) ∙ c .if2 .taken)
-
-not-aligned-requires : tie.Need-not-aligned-requires
-not-aligned-requires c κs = search needs
 
 returns-4 : tie.Need-returns-4
 returns-4 c =
@@ -89,12 +71,6 @@ cast-new c = omega (arith, small (c .before .before))
 add-new : tie.Need-add-new
 add-new c = omega (arith, small (c .before .before))
 
-conflicting-requires : tie.Need-conflicting-requires
-conflicting-requires c κs = search needs
-
-previous-end-requires : tie.Need-previous-end-requires
-previous-end-requires c κs = search needs
-
 returns-5 : tie.Need-returns-5
 returns-5 c =
     let at-third = c .before .before .before in
@@ -103,50 +79,39 @@ returns-5 c =
     by-tests (at-second .before .before) .conflict (within at-second) (aligned at-third) (sym (c .before .before .conflicting .ensures) ∙ c .before .if4 .taken)
     ∙ ap (λ (n : ℕ). refused (conflicting-end n (header .offset + header .size))) (sym (c .previous-end .ensures))
 
-too-short-requires : tie.Need-too-short-requires
-too-short-requires c κs = tt
-
-cast-needed : tie.Need-cast-needed
-cast-needed c = omega (arith, small (c .before .before .before .before .before .before))
-
-add-needed : tie.Need-add-needed
-add-needed c = omega (arith, small (c .before .before .before .before .before .before))
-
 returns-6 : tie.Need-returns-6
 returns-6 c =
     let at-fourth = c .before .before in
     let at-third = at-fourth .before .before in
     let at-second = at-third .before .before in
-    by-tests (at-second .before .before) .short (within at-second) (aligned at-third) (sym (at-fourth .before .conflicting .ensures) ∙ at-fourth .if4 .left) (sym (c .before .too-short .ensures) ∙ c .if5 .taken)
+    by-tests (at-second .before .before) .short (within at-second) (aligned at-third) (sym (at-fourth .before .conflicting .ensures) ∙ at-fourth .if4 .left) _ (c .before .needed .ensures) (c .if5 .taken)
 
 returns-7 : tie.Need-returns-7
 returns-7 c =
     let at-fourth = c .before .before in
     let at-third = at-fourth .before .before in
     let at-second = at-third .before .before in
-    by-tests (at-second .before .before) .passes (within at-second) (aligned at-third) (sym (at-fourth .before .conflicting .ensures) ∙ at-fourth .if4 .left) (sym (c .before .too-short .ensures) ∙ c .if5 .left)
+    by-tests (at-second .before .before) .passes (within at-second) (aligned at-third) (sym (at-fourth .before .conflicting .ensures) ∙ at-fourth .if4 .left) (omega (arith, c .before .needed .ensures, c .if5 .left))
 
 pub judge-spec : {M : Type 1} → statement M
 judge-spec =
     tie.close
     (tie.spec
-    malformed-requires
+    (λ c κs. search needs)
     returns
-    read-requires
-    enum-known-header
-    enum-told
+    (λ c κs. search needs)
+    (λ c. search needs)
+    (λ c. search needs)
     returns-2
-    too-big-requires
+    (λ c κs. search needs)
     returns-3
-    not-aligned-requires
+    (λ c κs. search needs)
     returns-4
     cast-new
     add-new
-    conflicting-requires
-    previous-end-requires
+    (λ c κs. search needs)
+    (λ c κs. search needs)
     returns-5
-    too-short-requires
-    cast-needed
-    add-needed
+    (λ c κs. search needs)
     returns-6
     returns-7)

@@ -10,8 +10,9 @@ use Rattle.tp_stream.proofs.judging.not_aligned.Tie as tie
 returns : tie.Need-returns
 returns c = sym (ap (λ (b : Bool). b && not (eqb (c .before .before .args .header .size % 16) 0)) (c .before .if1 .taken))
 
-returns-2 : tie.Need-returns-2
-returns-2 c = search needs
-
 pub not-aligned-spec : {M : Type 1} → statement M
-not-aligned-spec = tie.close (tie.spec returns returns-2)
+not-aligned-spec =
+    tie.close
+    (tie.spec
+    returns
+    (λ c. search needs))

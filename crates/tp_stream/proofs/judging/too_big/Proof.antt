@@ -7,11 +7,13 @@ use Rattle.tp_stream.proofs.judging.too_big.Tie as tie
 returns : tie.Need-returns
 returns c = past-limit _ _ _ (c .if1 .taken)
 
-cast-result : tie.Need-cast-result
-cast-result c = search needs
-
 returns-2 : tie.Need-returns-2
 returns-2 c = left-over _ _ _ (c .before .before .if1 .left)
 
 pub too-big-spec : {M : Type 1} → statement M
-too-big-spec = tie.close (tie.spec returns cast-result returns-2)
+too-big-spec =
+    tie.close
+    (tie.spec
+    returns
+    (λ c. search needs)
+    returns-2)

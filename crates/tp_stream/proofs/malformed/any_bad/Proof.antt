@@ -3,10 +3,10 @@ use Prim.Native.Nat.{_-_}
 use mathlib.Core.Path.{_≡_, refl, sym, _∙_}
 use native.Mathlib.Omega.{arith}
 use lib.ListN.{length, take, drop}
+use Rattle.tp_range.specs.Joining.{none}
 use Rattle.tp_machine.specs.Ranges.{any}
 use Rattle.tp_machine.specs.Machine.{most, State, bad-range}
 use Rattle.tp_range.proofs.Laws.{any-hit, any-miss, any-end}
-use Rattle.tp_stream.specs.Stream.{none}
 use borrow.Author.Needs.{needs}
 use Rattle.tp_stream.proofs.malformed.any_bad.Statement.{statement}
 use Rattle.tp_stream.proofs.malformed.any_bad.Tie as tie
@@ -23,15 +23,6 @@ long c = search needs
 loop-holds : tie.Need-loop-holds Inv-loop μ-loop
 loop-holds c = λ p e. refl
 
-mul-r : tie.Need-mul-r Inv-loop μ-loop
-mul-r c = search needs
-
-array-copy-out-r : tie.Need-array-copy-out-r Inv-loop μ-loop
-array-copy-out-r c = search needs
-
-add-i : tie.Need-add-i Inv-loop μ-loop
-add-i c = search needs
-
 bad-range-requires : tie.Need-bad-range-requires Inv-loop μ-loop
 bad-range-requires c κs = tt
 
@@ -42,9 +33,6 @@ returns c =
     let at-test = at-call .before .before in
     sym (any-hit _ _ _ none (at-test .loop-test .taken) (omega (arith, long (at-test .before .before))) (bad-range p) (sym (at-call .bad-range .ensures p e) ∙ c .if1 .taken))
     ∙ at-test .before .loop .inv p e
-
-loop-less : tie.Need-loop-less Inv-loop μ-loop
-loop-less c = search needs
 
 loop-again : tie.Need-loop-again Inv-loop μ-loop
 loop-again c =
@@ -64,11 +52,11 @@ any-bad-spec =
     Inv-loop
     μ-loop
     loop-holds
-    mul-r
-    array-copy-out-r
-    add-i
+    (λ c. search needs)
+    (λ c. search needs)
+    (λ c. search needs)
     bad-range-requires
     returns
-    loop-less
+    (λ c. search needs)
     loop-again
     returns-2)

@@ -3,17 +3,14 @@ use borrow.Author.Needs.{needs}
 use Rattle.tp_stream.proofs.malformed.end_past.Statement.{statement}
 use Rattle.tp_stream.proofs.malformed.end_past.Tie as tie
 
-enum-told : tie.Need-enum-told
-enum-told c = search needs
-
-enum-known-end : tie.Need-enum-known-end
-enum-known-end c = search needs
-
-returns : tie.Need-returns
-returns c = search needs
-
 returns-2 : tie.Need-returns-2
 returns-2 c = rw (c .before .end .given .1)
 
 pub end-past-spec : {M : Type 1} → statement M
-end-past-spec = tie.close (tie.spec enum-told enum-known-end returns returns-2)
+end-past-spec =
+    tie.close
+    (tie.spec
+    (λ c. search needs)
+    (λ c. search needs)
+    (λ c. search needs)
+    returns-2)

@@ -20,17 +20,11 @@ returns-2 c =
     let at-first = c .before .before in
     too-high (at-first .before .before .args .s) (at-first .if1 .left) (c .if2 .taken)
 
-end-past-requires : tie.Need-end-past-requires
-end-past-requires c κs = search needs
-
 returns-3 : tie.Need-returns-3
 returns-3 c =
     let at-second = c .before .before in
     let at-first = at-second .before .before in
     too-late (at-first .before .before .args .s) (at-first .if1 .left) (at-second .if2 .left) (sym (c .before .end-past .ensures) ∙ c .if3 .taken)
-
-any-bad-requires : tie.Need-any-bad-requires
-any-bad-requires c κs = search needs
 
 returns-4 : tie.Need-returns-4
 returns-4 c =
@@ -39,9 +33,6 @@ returns-4 c =
     let at-first = at-second .before .before in
     one-bad (at-first .before .before .args .s) (at-first .if1 .left) (at-second .if2 .left) (sym (at-third .before .end-past .ensures) ∙ at-third .if3 .left)
     (long (at-first .before .before)) (sym (c .before .any-bad .ensures _ refl) ∙ c .if4 .taken)
-
-some-touch-requires : tie.Need-some-touch-requires
-some-touch-requires c κs = search needs
 
 returns-5 : tie.Need-returns-5
 returns-5 c =
@@ -59,9 +50,9 @@ malformed-spec =
     (tie.spec
     returns
     returns-2
-    end-past-requires
+    (λ c κs. search needs)
     returns-3
-    any-bad-requires
+    (λ c κs. search needs)
     returns-4
-    some-touch-requires
+    (λ c κs. search needs)
     returns-5)

@@ -21,42 +21,24 @@ long c =
     let l : length (c .args .s .ranges) ≡ most = search (needs, length-of-map) in
     omega arith
 
-malformed-requires : tie.Need-malformed-requires
-malformed-requires c κs = search needs
-
 returns : tie.Need-returns
 returns c = ready-bad _ _ (sym (c .before .malformed .ensures) ∙ c .if1 .taken)
 
-whole-requires : tie.Need-whole-requires
-whole-requires c κs = search needs
-
-array-copy-out-first : tie.Need-array-copy-out-first
-array-copy-out-first c = search needs
-
-too-short-requires : tie.Need-too-short-requires
-too-short-requires c κs = tt
-
-cast-needed : tie.Need-cast-needed
-cast-needed c = search needs
-
-add-needed : tie.Need-add-needed
-add-needed c = search needs
-
 returns-2 : tie.Need-returns-2
 returns-2 c =
-    let at-short = c .before .before in
-    let at-whole = at-short .before .before .before in
+    let at-needed = c .before in
+    let at-whole = at-needed .before .before .before in
     let at-first = at-whole .before .before in
     let w = sym (at-whole .before .whole .ensures) ∙ at-whole .if2 .taken in
-    ready-short _ _ (good at-first) w _ (first-end (at-first .before .before .args .s) (long (at-first .before .before)) w) (sym (at-short .too-short .ensures) ∙ c .before .if3 .taken)
+    ready-short _ _ (good at-first) w _ (first-end (at-first .before .before .args .s) (long (at-first .before .before)) w) _ (at-needed .needed .ensures) (c .if3 .taken)
 
 returns-3 : tie.Need-returns-3
 returns-3 c =
-    let at-short = c .before in
-    let at-whole = at-short .before .before .before in
+    let at-needed = c .before .before in
+    let at-whole = at-needed .before .before .before in
     let at-first = at-whole .before .before in
     let w = sym (at-whole .before .whole .ensures) ∙ at-whole .if2 .taken in
-    ready-end _ _ (good at-first) w _ (first-end (at-first .before .before .args .s) (long (at-first .before .before)) w) (sym (at-short .too-short .ensures) ∙ c .if3 .left)
+    ready-end _ _ (good at-first) w _ (first-end (at-first .before .before .args .s) (long (at-first .before .before)) w) (omega (arith, at-needed .needed .ensures, c .before .if3 .left))
 
 returns-4 : tie.Need-returns-4
 returns-4 c = ready-not _ _ (good (c .before .before)) (sym (c .before .whole .ensures) ∙ c .if2 .left)
@@ -65,13 +47,12 @@ pub ready-spec : {M : Type 1} → statement M
 ready-spec =
     tie.close
     (tie.spec
-    malformed-requires
+    (λ c κs. search needs)
     returns
-    whole-requires
-    array-copy-out-first
-    too-short-requires
-    cast-needed
-    add-needed
+    (λ c κs. search needs)
+    (λ c. search needs)
+    (λ c κs. search needs)
     returns-2
+    (λ c. search needs)
     returns-3
     returns-4)

@@ -15,22 +15,10 @@ long c =
     let l : length (c .args .s .ranges) ≡ most = search (needs, length-of-map) in
     omega arith
 
-enum-told : tie.Need-enum-told
-enum-told c = search needs
-
-enum-told-2 : tie.Need-enum-told-2
-enum-told-2 c = search needs
-
-returns : tie.Need-returns
-returns c = search needs
-
 returns-2 : tie.Need-returns-2
 returns-2 c =
     let at-end = c .before .before in
     sym (whole-many (at-end .before .before .args .s) _ (at-end .enum-told .given .1) (c .if1 .taken))
-
-array-copy-out-first : tie.Need-array-copy-out-first
-array-copy-out-first c = search needs
 
 returns-3 : tie.Need-returns-3
 returns-3 c =
@@ -40,4 +28,11 @@ returns-3 c =
 
 pub whole-spec : {M : Type 1} → statement M
 whole-spec =
-    tie.close (tie.spec enum-told enum-told-2 returns returns-2 array-copy-out-first returns-3)
+    tie.close
+    (tie.spec
+    (λ c. search needs)
+    (λ c. search needs)
+    (λ c. search needs)
+    returns-2
+    (λ c. search needs)
+    returns-3)

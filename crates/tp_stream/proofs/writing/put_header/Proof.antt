@@ -16,18 +16,6 @@ slice-aggregate-put c = sym (length-take-le 16 (c .before .before .before .befor
 put-requires : tie.Need-put-requires
 put-requires c κs = omega (arith, length-take-le 16 (c .before .before .before .before .args .seg .now) (omega arith))
 
-shared-slice-read-without-tp : tie.Need-shared-slice-read-without-tp
-shared-slice-read-without-tp c = search needs
-
-without-tp-requires : tie.Need-without-tp-requires
-without-tp-requires c κs = search needs
-
-slice-write-buf : tie.Need-slice-write-buf
-slice-write-buf c = search needs
-
-same-length : tie.Need-same-length
-same-length c = search needs
-
 returns : tie.Need-returns
 unfolding header
 returns c =
@@ -44,8 +32,8 @@ put-header-spec =
     (tie.spec
     slice-aggregate-put
     put-requires
-    shared-slice-read-without-tp
-    without-tp-requires
-    slice-write-buf
-    same-length
+    (λ c. search needs)
+    (λ c κs. search needs)
+    (λ c. search needs)
+    (λ c. search needs)
     returns)

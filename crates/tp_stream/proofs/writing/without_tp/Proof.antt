@@ -5,15 +5,14 @@ use borrow.Author.Needs.{needs}
 use Rattle.tp_stream.proofs.writing.without_tp.Statement.{statement}
 use Rattle.tp_stream.proofs.writing.without_tp.Tie as tie
 
-mul-result : tie.Need-mul-result
-mul-result c = search needs
-
-sub-result : tie.Need-sub-result
-sub-result c = search needs
-
 returns : tie.Need-returns
 unfolding without-tp
 returns c = refl
 
 pub without-tp-spec : {M : Type 1} → statement M
-without-tp-spec = tie.close (tie.spec mul-result sub-result returns)
+without-tp-spec =
+    tie.close
+    (tie.spec
+    (λ c. search needs)
+    (λ c. search needs)
+    returns)

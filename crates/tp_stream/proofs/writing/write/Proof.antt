@@ -9,7 +9,7 @@ use borrow.Author.Tests.{eq-eqb, ne-eqb}
 use lib.Dec.{eqb}
 use lib.ListN.{length, drop, length-drop}
 use Rattle.tp_machine.specs.Segments.{offset, payload, header, pasted, written}
-use Rattle.tp_stream.proofs.WritingLaws.{tail-all}
+use Rattle.numbers.proofs.ByteLaws.{take-rest}
 use borrow.Author.Needs.{needs}
 use Rattle.tp_stream.proofs.writing.write.Statement.{statement}
 use Rattle.tp_stream.proofs.writing.write.Tie as tie
@@ -33,26 +33,11 @@ module _ (c : tie.Joined1) where
   same : length (c .if1 .buf) ≡ length buf
   same = ⊎-elim (λ w. ap length (w .5) ∙ w .2 .kept .0) (λ w. ap length (w .1)) (c .if1 .came)
 
-put-header-requires : tie.Need-put-header-requires
-put-header-requires c κs = search needs
-
-add-put : tie.Need-add-put
-add-put c = search needs
-
-sub-put : tie.Need-sub-put
-sub-put c = search needs
-
-part-put-start : tie.Need-part-put-start
-part-put-start c = search needs
-
-part-put-end : tie.Need-part-put-end
-part-put-end c = search needs
-
 put-requires : tie.Need-put-requires
 unfolding payload
 put-requires c κs =
     let at-join = c .before .before in
-    omega (arith, same at-join, ap length (tail-all (seg at-join) 20), length-drop 20 (seg at-join))
+    omega (arith, same at-join, ap length (take-rest (seg at-join) 20), length-drop 20 (seg at-join))
 
 same-length : tie.Need-same-length
 same-length c =
@@ -66,18 +51,18 @@ returns c =
     let at-join = at-put .before .before .before in
     let is : off at-join ≡ offset (seg at-join) = at-join .before .before .before .pre .1 in
     at-put .put .ensures
-    ∙ (λ i. pasted (first at-join i) (16 + off at-join) (tail-all (seg at-join) 20 i))
+    ∙ (λ i. pasted (first at-join i) (16 + off at-join) (take-rest (seg at-join) 20 i))
     ∙ (λ i. pasted (cond (eqb (is i) 0) (pasted (buf at-join) 0 (header (seg at-join))) (buf at-join)) (16 + is i) (drop 20 (seg at-join)))
 
 pub write-spec : {M : Type 1} → statement M
 write-spec =
     tie.close
     (tie.spec
-    put-header-requires
-    add-put
-    sub-put
-    part-put-start
-    part-put-end
+    (λ c κs. search needs)
+    (λ c. search needs)
+    (λ c. search needs)
+    (λ c. search needs)
+    (λ c. search needs)
     put-requires
     same-length
     returns)
