@@ -5,7 +5,7 @@ use Rattle.numbers.specs.Refusals.{Refusal}
 use Rattle.numbers.specs.Answers as paper
 use Rattle.sd_format.specs.Frames.{Frame}
 use Rattle.sd_format.specs.Frames as Frames
-use Rattle.sd_option.specs.Reading.{Head}
+use Rattle.sd_option.specs.declared.reading.OptionHead.{OptionHead}
 use Rattle.sd_index.specs.Found.{Located}
 use Rattle.refusal.specs.declared.values.Numbers.{Numbers}
 use Rattle.refusal.specs.Said.{places, padded}
@@ -36,8 +36,8 @@ abbrev pub one-value : ℕ → List ℕ
 one-value n = n ∷ []
 
 -- an option that starts at `at`: its type, where it starts, and how many bytes it takes
-abbrev pub head-values : (at : ℕ) → Head → List ℕ
-head-values at h = h .type ∷ at ∷ h .size ∷ []
+abbrev pub head-values : (at : ℕ) → OptionHead → List ℕ
+head-values at h = h .code ∷ at ∷ h .size ∷ []
 
 abbrev pub located-values : Located → List ℕ
 located-values l = head-values (l .offset) (l .head)

@@ -15,7 +15,7 @@ ghost use mathlib.Core.Path.{_≡_};
 ghost use mathlib.Core.List.{[]};
 ghost use mathlib.Core.Bool.{cond};
 ghost use Rattle.refusal.specs.Said.{said, verdict-said, count-said};
-ghost use Rattle.sd_option.specs.Reading.{head-said, option-said};
+ghost use Rattle.sd_option.specs.Reading.{option-said};
 ghost use Rattle.sd_index.specs.Found.{found-said};
 ghost use Rattle.hub.specs.Answers.{row, without-count, no-values, refusal-row, told, one-value, head-values, located-values};
 
@@ -80,7 +80,7 @@ pub(crate) fn count_answer(count: Count) -> Answer
 
 // An option that starts at `at`: its type, where it starts, and how many bytes it takes.
 fn head_answer(head: OptionHead, at: usize) -> Answer
-    ensures { λ r. ⌜ r ≡ row 0 (head-values at (head-said head)) ⌝ }
+    ensures { λ r. ⌜ r ≡ row 0 (head-values at head) ⌝ }
 {
     answer_of(three(0, head.code as u64, at as u64, head.size as u64))
 }

@@ -159,3 +159,109 @@ fn address_len(address: IpAddress) -> usize
         IpAddress::V6(_, _, _, _) => 16,
     }
 }
+
+// The fields of an option of that type and so many bytes.
+fn told(
+    code: u8,
+    size: usize,
+    first: OptionFirst,
+    priority: u16,
+    weight: u16,
+    address: Span,
+    protocol: u8,
+    port: u16,
+    string: Span,
+) -> Option
+    ensures { λ r. ⌜ r ≡ fields code size (first-said first) priority weight address protocol port string ⌝ }
+{
+    Option {
+        answer: accepted(),
+        code: code as u64,
+        size: size as u64,
+        discardable: bit(first.discardable),
+        priority: priority as u64,
+        weight: weight as u64,
+        address_at: address.at,
+        address_len: address.len,
+        protocol: protocol as u64,
+        port: port as u64,
+        string_at: string.at,
+        string_len: string.len,
+    }
+}
+
+// The fields of an option that takes `size` bytes, by its kind.
+fn fields_of(option: SdOption, size: usize) -> Option
+    requires { ⌜ 4 ≤ size ⌝ }
+{
+    let code = code_of(option);
+    match option {
+        SdOption::Configuration { first } => told(
+            code,
+            size,
+            first,
+            0,
+            0,
+            nowhere(),
+            0,
+            0,
+            behind_first(size - 4),
+        ),
+        SdOption::LoadBalancing {
+            first,
+            priority,
+            weight,
+        } => told(
+            code,
+            size,
+            first,
+            priority,
+            weight,
+            nowhere(),
+            0,
+            0,
+            nowhere(),
+        ),
+        SdOption::Address {
+            role: _,
+            first,
+            address,
+            reserved: _,
+            protocol,
+            port,
+        } => told(
+            code,
+            size,
+            first,
+            0,
+            0,
+            behind_first(address_len(address)),
+            protocol,
+            port,
+            nowhere(),
+        ),
+        SdOption::Unknown { code: _, first } => told(
+            code,
+            size,
+            first,
+            0,
+            0,
+            nowhere(),
+            0,
+            0,
+            nowhere(),
+        ),
+    }
+}
+
+// The option in front of these bytes, its string scanned, with its fields.
+#[no_mangle]
+pub extern "C" fn viaductle_read_option(option: &[u8]) -> Option
+    ensures { λ r. ⌜ r ≡ read-option-told (now (option .entry)) ⌝ }
+{
+    let answer = read_fields(option);
+    match answer {
+        FieldsAnswer::Good { option, size } => fields_of(option, size),
+        FieldsAnswer::Refused(refusal) => no_option(refused(refusal)),
+    }
+}
