@@ -1,122 +1,135 @@
--- The fields that options of one kind alone have: a string, load balancing's two numbers, an unknown option's type and bytes. Assumes nothing.
+-- An option's fields by its kind, from the head that the reading told and the bytes after the type; and its type code. Assumes nothing.
+use Prim.Native.Nat.{ℕ, _%_, _-_, _≤_}
 use mathlib.Core.Path.{_≡_, refl, sym, ap, _∙_}
-use mathlib.Core.Logic.{_≢_}
-use mathlib.Core.List.{List}
-use Prim.Native.Nat.{ℕ, _+_, _*_, _-_, _≤_}
+use mathlib.Core.List.{List, [], _∷_}
 use native.Mathlib.Omega.{arith}
-use lib.ListN.{length, getD, length-drop}
-use Rattle.numbers.specs.Refusals.{Refusal, nothing-there}
-use Rattle.numbers.specs.Answers.{accepted, refused, _>>=_, given}
-use Rattle.numbers.specs.Bytes.{at16}
-use Rattle.sd_format.specs.Kinds.{Kind, configuration, load-balancing, address, unknown, exactly, Row, row-of, row-in, kinds, unscanned}
-use Rattle.sd_format.specs.Frames.{one-option}
-use Rattle.sd_format.specs.Fields.{asked, of-load-balancing, of-configuration, string}
+use lib.ListN.{length, take, drop, getD}
+use Rattle.numbers.specs.Answers.{accepted, pass, given}
+use Rattle.sd_format.specs.Options.{First, Opt, configuring, balancing, unrecognised}
+use Rattle.sd_format.specs.Strings.{read-string}
+use Rattle.sd_format.specs.Kinds.{Kind, configuration, load-balancing, address, unknown, Row, row-of, kind-of, judge-length, scanned}
+use Rattle.sd_format.specs.Frames.{read-option}
+use Rattle.sd_format.specs.Fields.{first, string, priority, weight, items-of, fields-of, fields}
+use Rattle.sd_format.specs.Layout.{lay-type, lay-length}
+use Rattle.sd_format.proofs.KindLaws.{row-configuration, row-load-balancing, row-address, row-unknown, type-cases}
+use Rattle.sd_format.proofs.FieldLaws.{exact-length, lengths}
 use Rattle.refusal.specs.declared.Refusal as code
-use Rattle.refusal.specs.Said.{said}
+use Rattle.sd_option.specs.declared.kinds.Family.{Family}
+use Rattle.sd_option.specs.declared.kinds.Role.{Role}
 use Rattle.sd_option.specs.declared.kinds.OptionKind.{OptionKind}
 use Rattle.sd_option.specs.declared.kinds.OptionKind.the-variants as kind
 use Rattle.sd_option.specs.declared.reading.OptionHead.{OptionHead}
 use Rattle.sd_option.specs.declared.reading.OptionAnswer.{OptionAnswer}
-use Rattle.sd_option.specs.declared.reading.OptionAnswer.the-variants as option
-use Rattle.sd_option.specs.Kinds.{row-said}
-use Rattle.sd_option.specs.Reading.{head-of, head-said, option-said, option-refusal}
-use Rattle.sd_field.specs.Fields.{size-asked, of-unknown, unknown-type}
-use Rattle.sd_option.proofs.KindLaws.{row-code, is-balancing}
-use Rattle.sd_option.proofs.ReadingLaws.{Found, body-at, front-length, not-found}
-use Rattle.sd_field.proofs.AskedLaws.{body-word, exact-length, row-here, asked-here}
+use Rattle.sd_option.specs.declared.reading.OptionAnswer.the-variants as read
+use Rattle.sd_option.specs.Kinds.{family-said, role-said, kind-said}
+use Rattle.sd_option.specs.Reading.{head-of, option-refusal}
+use Rattle.sd_option.specs.Reading as reading
+use Rattle.sd_option.proofs.ReadingLaws.{Found, not-found, front-length}
+use Rattle.sd_field.specs.declared.OptionFirst.{OptionFirst}
+use Rattle.sd_field.specs.declared.IpAddress.{IpAddress}
+use Rattle.sd_field.specs.declared.SdOption.{SdOption}
+use Rattle.sd_field.specs.declared.SdOption.the-variants.{Address}
+use Rattle.sd_field.specs.declared.FieldsAnswer.the-variants.{Good, Refused}
+use Rattle.sd_field.specs.Said.{address-said, option-said, code-said, decoded, fields-said, rest-of, needed, address-fields, Headed}
 
--- ---- a field of one kind only, from where the code has the option's head
+-- ---- the fields by the kind
 
--- another kind has no such field
-module _ {A : Type 0} (field : List ℕ → A) (body : List ℕ) where
-  string-lacks : (k : Kind) → k ≢ configuration → of-configuration field k body ≡ refused nothing-there
-  unfolding of-configuration
-  string-lacks configuration h = absurd (h refl)
-  string-lacks load-balancing h = refl
-  string-lacks (address family role) h = refl
-  string-lacks unknown h = refl
+some-needed : (k : Kind) → 1 ≤ needed k
+some-needed configuration = omega arith
+some-needed load-balancing = omega arith
+some-needed (address family role) = omega arith
+some-needed unknown = omega arith
 
-  balancing-lacks : (k : Kind) → k ≢ load-balancing → of-load-balancing field k body ≡ refused nothing-there
-  unfolding of-load-balancing
-  balancing-lacks configuration h = refl
-  balancing-lacks load-balancing h = absurd (h refl)
-  balancing-lacks (address family role) h = refl
-  balancing-lacks unknown h = refl
+module _ {head : OptionHead} {body : List ℕ} (headed : Headed head body) where
+  pub some-body : 1 ≤ length body
+  some-body = omega (arith, some-needed (kind-of (head .code)), headed .long)
 
-  unknown-lacks : (k : Kind) → k ≢ unknown → of-unknown field k body ≡ refused nothing-there
-  unfolding of-unknown
-  unknown-lacks configuration h = refl
-  unknown-lacks load-balancing h = refl
-  unknown-lacks (address family role) h = refl
-  unknown-lacks unknown h = absurd (h refl)
+  -- the first byte, as the code has it
+  abbrev first-told : First
+  first-told = record { discardable = head .discardable; others = getD body 0 0 % 128 }
 
--- load balancing asks for five bytes
-balancing-row : (k : OptionKind) → k ≡ kind.LoadBalancing → row-said k .len ≡ exactly 5
-unfolding row-of row-in kinds
-balancing-row k e = rw e
+  first-is : first-told ≡ first body
+  first-is = λ i. record { discardable = headed .bit i; others = getD body 0 0 % 128 }
 
-module _ (s : List ℕ) (hd : OptionHead) (k : OptionKind) (named : row-said k ≡ row-of (hd .code)) (t : Found unscanned s (head-said hd)) where
-  abbrev body : List ℕ
-  body = body-at s (hd .size - 3)
+  -- the option of this head
+  abbrev Fields : Opt → Type 0
+  Fields o = o ≡ fields-of (kind-of (head .code)) (head .code) body
 
-  abbrev kind-here : Kind
-  kind-here = row-said k .kind
+  module _ {told : OptionKind} (made : kind-said told ≡ kind-of (head .code)) where
+    pub long-for : {here : OptionKind} → told ≡ here → needed (kind-said here) ≤ length body
+    long-for this = rw (ap kind-said (sym this) ∙ made) (headed .long)
 
-  -- the bytes after the first
-  rest-length : length (string body) ≡ hd .size - 4
-  rest-length = rw (length-drop, front-length s (hd .size - 3) (omega arith)) (omega arith)
+    by-kind : {here : OptionKind} {o : Opt} → told ≡ here → o ≡ fields-of (kind-said here) (head .code) body → Fields o
+    by-kind this is = is ∙ ap (λ (k : Kind). fields-of k (head .code) body) (ap kind-said (sym this) ∙ made)
 
-  pub string-size : kind-here ≡ configuration → accepted (hd .size - 4) ≡ size-asked (of-configuration string) s
-  unfolding given of-configuration
-  string-size is = rw (asked-here s hd k named t (of-configuration string), is, rest-length)
+    pub as-configuration : told ≡ kind.Configuration → Fields (configuring first-told (items-of (read-string (string body))))
+    unfolding fields-of
+    as-configuration this = by-kind this (ap (λ (b : First). configuring b (items-of (read-string (string body)))) first-is)
 
-  pub no-string-size : kind-here ≢ configuration → refused nothing-there ≡ size-asked (of-configuration string) s
-  unfolding given
-  no-string-size other = rw (asked-here s hd k named t (of-configuration string), string-lacks string body kind-here other)
+    pub as-balancing : told ≡ kind.LoadBalancing → {p w : ℕ} → p ≡ priority body → w ≡ weight body → Fields (balancing first-told p w)
+    unfolding fields-of
+    as-balancing this p w = by-kind this (λ i. balancing (first-is i) (p i) (w i))
 
-  pub unknown-size : kind-here ≡ unknown → accepted (hd .size - 4) ≡ size-asked (of-unknown string) s
-  unfolding given of-unknown
-  unknown-size is = rw (asked-here s hd k named t (of-unknown string), is, rest-length)
+    pub as-address : {f : Family} {r : Role} {o : Opt} → told ≡ kind.Address f r → o ≡ address-fields (family-said f) (role-said r) first-told body → Fields o
+    unfolding fields-of
+    as-address {f} {r} this is = by-kind this (is ∙ ap (λ (b : First). address-fields (family-said f) (role-said r) b body) first-is)
 
-  pub no-unknown-size : kind-here ≢ unknown → refused nothing-there ≡ size-asked (of-unknown string) s
-  unfolding given
-  no-unknown-size other = rw (asked-here s hd k named t (of-unknown string), unknown-lacks string body kind-here other)
+    pub as-unknown : told ≡ kind.Unknown → Fields (unrecognised (head .code) first-told (string body))
+    unfolding fields-of
+    as-unknown this = by-kind this (ap (λ (b : First). unrecognised (head .code) b (string body)) first-is)
 
-  -- a number of a load balancing option
-  pub balancing-size : k ≡ kind.LoadBalancing → hd .size ≡ 8
-  balancing-size is =
-      let n : length body ≡ 5 = exact-length (row-of (getD s 2 0) .len) 5 body (t .fits) (ap (λ (w : Row). w .len) (sym (row-here s hd k named t)) ∙ balancing-row k is) in
-      let m : length body ≡ hd .size - 3 = front-length s (hd .size - 3) (omega arith) in
-      omega arith
+-- ---- the option in front of some bytes
 
-  pub balancing-told : (i n : ℕ) → i ≤ 3 → k ≡ kind.LoadBalancing → n ≡ getD s (3 + i) 0 * 256 + getD s (4 + i) 0
-      → accepted n ≡ asked (of-load-balancing (λ (b : List ℕ). at16 b i)) s
-  unfolding of-load-balancing
-  balancing-told i n h is e =
-      let z = balancing-size is in
-      let same : kind-here ≡ load-balancing = is-balancing k is in
-      let w : at16 body i ≡ n = body-word s (hd .size - 3) i (omega arith) ∙ sym e in
-      rw (asked-here s hd k named t (of-load-balancing (λ (b : List ℕ). at16 b i)), same, w)
+-- the length that a kind asks holds its fields
+holds : (body : List ℕ) (type : ℕ) → 1 ≤ length body → judge-length (row-of type .len) (length body) ≡ pass → needed (kind-of type) ≤ length body
+holds body type some =
+    type-cases type
+    (at row-configuration (λ j. some))
+    (at row-load-balancing (λ j. omega (arith, exact-length 5 body .0 j)))
+    (λ family role. at (row-address family role) (λ j. omega (arith, exact-length (lay-length family) body .0 j, lengths family)))
+    (λ u. at (row-unknown type u) (λ j. some) refl)
+  where
+    Asks : Row → Type 0
+    Asks r = judge-length (r .len) (length body) ≡ pass → needed (r .kind) ≤ length body
 
-  pub no-balancing-told : (i : ℕ) → kind-here ≢ load-balancing → refused nothing-there ≡ asked (of-load-balancing (λ (b : List ℕ). at16 b i)) s
-  no-balancing-told i other = rw (asked-here s hd k named t (of-load-balancing (λ (b : List ℕ). at16 b i)), balancing-lacks (λ (b : List ℕ). at16 b i) body kind-here other)
+    at : {code : ℕ} {r : Row} → row-of code ≡ r → Asks r → type ≡ code → Asks (row-of type)
+    at row asks this = rw (this, row) asks
 
-  -- an unknown option's type
-  unknown-here : unknown-type s ≡ of-unknown (λ (b : List ℕ). getD s 2 0) kind-here body
-  unfolding unknown-type _>>=_
-  unknown-here = rw (t .reads) (ap (λ (w : Row). of-unknown (λ (b : List ℕ). getD s 2 0) (w .kind) body) (sym (row-here s hd k named t)))
+-- the bytes after the type, as the code takes them
+abbrev body-in : List ℕ → OptionHead → List ℕ
+body-in s h = take (h .size - 3) (drop 3 s)
 
-  pub type-told : (n : ℕ) → k ≡ kind.Unknown n → accepted n ≡ unknown-type s
-  unfolding of-unknown
-  type-told n is =
-      let c : n ≡ getD s 2 0 = ap (λ (k : OptionKind). row-said k .code) (sym is) ∙ ap (λ (w : Row). w .code) (row-here s hd k named t) ∙ row-code (getD s 2 0) in
-      rw (unknown-here, is, c)
+module _ {s : List ℕ} {h : OptionHead} (t : Found scanned s h) where
+  pub found-headed : Headed h (body-in s h)
+  found-headed =
+      let few = t .some in
+      let len = front-length s (h .size - 3) (omega (arith, t .within)) in
+      record {
+        bit = sym (ap (λ (x : OptionHead). x .discardable) (t .head));
+        long = holds (body-in s h) (h .code) (omega arith) (rw len (t .fits));
+      }
 
-  pub no-type-told : kind-here ≢ unknown → refused nothing-there ≡ unknown-type s
-  no-type-told other = rw (unknown-here, unknown-lacks (λ (b : List ℕ). getD s 2 0) body kind-here other)
+  pub found-fields : (o : SdOption) → option-said (string (body-in s h)) o ≡ fields-of (kind-of (h .code)) (h .code) (body-in s h)
+      → fields-said (rest-of s) (Good o (h .size)) ≡ given decoded (read-option s)
+  unfolding given fields
+  found-fields o is =
+      let option = is ∙ ap (λ (c : ℕ). fields-of (kind-of c) c (body-in s h)) (t .type) in
+      let size = sym (ap (λ (x : OptionHead). x .size) (t .head)) in
+      rw (t .reads) (λ i. accepted (record { option = option i; size = size i }))
 
--- a refused option has no type
-pub type-of-refused : (s : List ℕ) (a : OptionAnswer) (q r : code.Refusal) → option-said a ≡ given head-of (one-option unscanned s)
-    → a ≡ option.Refused q → r ≡ option-refusal a → refused (said r) ≡ unknown-type s
-unfolding unknown-type _>>=_
-type-of-refused s a q r told e w = rw (not-found unscanned s a told q e, w, e)
+-- a refusal of the reading
+pub refused-fields : (s : List ℕ) (a : OptionAnswer) {q r : code.Refusal} → reading.option-said a ≡ given head-of (read-option s) → a ≡ read.Refused q → r ≡ option-refusal a
+    → fields-said (rest-of s) (Refused r) ≡ given decoded (read-option s)
+unfolding given
+refused-fields s a {q} told this made = rw (not-found scanned s a told q this, made, this)
+
+-- behind the first byte of no bytes there are none
+pub none-behind : (l : List ℕ) {body : List ℕ} → l ≡ body → length l ≡ 0 → l ≡ drop 1 body
+none-behind [] same none = ap (drop 1) same
+none-behind (x ∷ l) same none = absurd (omega arith)
+
+-- ---- the type code
+
+pub address-code : {o : SdOption} {role : Role} {b : OptionFirst} {a here : IpAddress} {reserved protocol port n : ℕ} → o ≡ Address role b a reserved protocol port → a ≡ here
+    → n ≡ lay-type (address-said here .family) (role-said role) → n ≡ code-said o
+address-code this there made = rw (this, there) made

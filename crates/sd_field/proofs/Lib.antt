@@ -1,5 +1,4 @@
-pub mod AskedLaws
-pub mod AddressLaws
 pub mod FieldLaws
-pub mod PartLaws
-pub mod OneAnswer
+pub mod OneOutcome
+pub mod Own
+pub mod PlaceLaws

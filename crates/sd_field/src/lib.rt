@@ -1,191 +1,142 @@
-// The fields of the option in front of a slice, whatever else stands in it. An option of another kind has no such field, which is refusal 20;
-// bytes that hold no option get the refusal of their reading. Configuration strings are not scanned.
-use big_endian::be16;
+// One option by its kind's own fields, as one value that is read once. What no value holds, a configuration option's string and an unknown
+// option's bytes, is a part of the bytes handed in.
+mod codes; // codes.rt: the type code of an option
+mod places; // places.rt: the numbers and the addresses at their places
+
+pub use codes::code_of;
+use places::address_at;
+use places::number16;
+use places::width_of;
 use refusal::Refusal;
+use sd_option::kinds::Family;
 use sd_option::kinds::OptionKind;
+use sd_option::kinds::Role;
 use sd_option::kinds::kind_of;
 use sd_option::reading::OptionAnswer;
-use sd_option::reading::option_refusal;
-use sd_option::reading::read_option_unscanned;
+use sd_option::reading::OptionHead;
+use sd_option::reading::option_bytes;
+use sd_option::reading::read_option;
 ghost use mathlib.Core.Path.{_≡_};
-ghost use Prim.Native.Nat.{ℕ, _≤_};
-ghost use mathlib.Core.List.{List};
-ghost use lib.ListN.{length, take, drop};
+ghost use Prim.Native.Nat.{_≤_};
+ghost use lib.ListN.{length};
 ghost use Rattle.numbers.specs.Answers.{given};
-ghost use Rattle.numbers.specs.Bytes.{at16};
-ghost use Rattle.sd_format.specs.Fields.{asked, of-address, of-load-balancing, of-configuration, address-bytes, protocol, port, priority, weight, string};
-ghost use Rattle.sd_option.specs.Reading.{part};
-ghost use Rattle.sd_field.specs.Fields.{byte-said, word-said, size-said, size-refusal, size-asked, end-of, of-unknown, unknown-type};
+ghost use Rattle.sd_format.specs.Kinds.{address, kind-of};
+ghost use Rattle.sd_format.specs.Frames.{read-option};
+ghost use Rattle.sd_format.specs.Fields.{string, fields-of};
+ghost use Rattle.sd_option.specs.Kinds.{family-said, role-said};
+ghost use Rattle.sd_field.specs.Said.{first-said, option-said, decoded, fields-said, rest-of, needed, address-fields, Headed};
 
-pub enum ByteAnswer {
-    Good(u8),
+// The byte after the type: the discardable bit, and its seven other bits, as sent.
+pub struct OptionFirst {
+    pub discardable: bool,
+    pub others: u8,
+}
+
+// An address by its words of four bytes.
+pub enum IpAddress {
+    V4(u32),
+    V6(u32, u32, u32, u32),
+}
+
+// A configuration option's string and an unknown option's later bytes: `option_rest`. `reserved` is the byte before the transport protocol, as
+// sent.
+pub enum SdOption {
+    Configuration {
+        first: OptionFirst,
+    },
+    LoadBalancing {
+        first: OptionFirst,
+        priority: u16,
+        weight: u16,
+    },
+    Address {
+        role: Role,
+        first: OptionFirst,
+        address: IpAddress,
+        reserved: u8,
+        protocol: u8,
+        port: u16,
+    },
+    Unknown {
+        code: u8,
+        first: OptionFirst,
+    },
+}
+
+// The option, and how many bytes it takes, its length and its type among them.
+pub enum FieldsAnswer {
+    Good { option: SdOption, size: usize },
     Refused(Refusal),
 }
 
-pub enum WordAnswer {
-    Good(u16),
-    Refused(Refusal),
-}
+// The length and the type, which stand before the bytes that hold the fields.
+const FRAME_LEN: usize = 3;
 
-pub enum SizeAnswer {
-    Good(usize),
-    Refused(Refusal),
-}
+// The discardable bit; the seven other bits of its byte are below it.
+const DISCARDABLE: u8 = 0x80;
 
-// Why a field was refused.
-fn size_refusal(answer: SizeAnswer) -> Refusal
-    ensures { λ r. ⌜ r ≡ size-refusal answer ⌝ }
+// An option with an address, whose other fields stand in `body`, the bytes after its type.
+fn address_option(family: Family, role: Role, first: OptionFirst, body: &[u8]) -> SdOption
+    requires { ⌜ needed (address (family-said family) (role-said role)) ≤ length (now body) ⌝ }
+    ensures { λ r. ⌜ option-said (string (now (body .entry))) r ≡ address-fields (family-said family) (role-said role) (first-said first) (now (body .entry)) ⌝ }
 {
-    match answer {
-        SizeAnswer::Good(_) => Refusal::NothingThere,
-        SizeAnswer::Refused(refusal) => refusal,
+    let width = width_of(family);
+    SdOption::Address {
+        role,
+        first,
+        address: address_at(family, body),
+        reserved: body[1 + width],
+        protocol: body[2 + width],
+        port: number16(body, 3 + width),
     }
 }
 
-// How many bytes the address has: 4 or 16.
-pub fn address_size(s: &[u8]) -> SizeAnswer
-    ensures { λ r. ⌜ size-said r ≡ size-asked (of-address address-bytes) (now (s .entry)) ⌝ }
+// The option of this head, whose fields stand in `body`, the bytes after its type.
+fn fields_of(head: OptionHead, body: &[u8]) -> SdOption
+    requires { ⌜ Headed head (now body) ⌝ }
+    ensures { λ r. ⌜ option-said (string (now (body .entry))) r ≡ fields-of (kind-of (head .code)) (head .code) (now (body .entry)) ⌝ }
 {
-    let answer = read_option_unscanned(s);
-    let OptionAnswer::Good(head) = answer else {
-        return SizeAnswer::Refused(option_refusal(answer));
+    let code = head.code;
+    let first = OptionFirst {
+        discardable: head.discardable,
+        others: body[0] % DISCARDABLE,
     };
-    let kind = kind_of(head.code);
+    let kind = kind_of(code);
     match kind {
-        OptionKind::Ipv4Endpoint | OptionKind::Ipv4Multicast | OptionKind::Ipv4SdEndpoint =>
-            SizeAnswer::Good(4),
-        OptionKind::Ipv6Endpoint | OptionKind::Ipv6Multicast | OptionKind::Ipv6SdEndpoint =>
-            SizeAnswer::Good(16),
-        _ => SizeAnswer::Refused(Refusal::NothingThere),
+        OptionKind::Configuration => SdOption::Configuration { first },
+        OptionKind::LoadBalancing => SdOption::LoadBalancing {
+            first,
+            priority: number16(body, 1),
+            weight: number16(body, 3),
+        },
+        OptionKind::Address(family, role) => address_option(family, role, first, body),
+        OptionKind::Unknown => SdOption::Unknown { code, first },
     }
 }
 
-// The transport protocol of an option with an address.
-pub fn protocol(s: &[u8]) -> ByteAnswer
-    ensures { λ r. ⌜ byte-said r ≡ asked (of-address protocol) (now (s .entry)) ⌝ }
+// The option in front of `s` by its fields, its configuration string scanned.
+pub fn read_fields(s: &[u8]) -> FieldsAnswer
+    ensures { λ r. ⌜ fields-said (rest-of (now (s .entry))) r ≡ given decoded (read-option (now (s .entry))) ⌝ }
 {
-    let answer = address_size(s);
-    let SizeAnswer::Good(width) = answer else {
-        return ByteAnswer::Refused(size_refusal(answer));
-    };
-    ByteAnswer::Good(s[5 + width])
-}
-
-// The port of an option with an address.
-pub fn port(s: &[u8]) -> WordAnswer
-    ensures { λ r. ⌜ word-said r ≡ asked (of-address port) (now (s .entry)) ⌝ }
-{
-    let answer = address_size(s);
-    let SizeAnswer::Good(width) = answer else {
-        return WordAnswer::Refused(size_refusal(answer));
-    };
-    WordAnswer::Good(be16(s[6 + width], s[7 + width]))
-}
-
-// The number at a place of a load balancing option's bytes.
-fn balancing(s: &[u8], place: usize) -> WordAnswer
-    requires { ⌜ place ≤ 3 ⌝ }
-    ensures { λ r. ⌜ word-said r ≡ asked (of-load-balancing (λ (body : List ℕ). at16 body place)) (now (s .entry)) ⌝ }
-{
-    let answer = read_option_unscanned(s);
+    let answer = read_option(s);
     let OptionAnswer::Good(head) = answer else {
-        return WordAnswer::Refused(option_refusal(answer));
+        return FieldsAnswer::Refused(answer.refusal());
     };
-    let kind = kind_of(head.code);
-    let OptionKind::LoadBalancing = kind else {
-        return WordAnswer::Refused(Refusal::NothingThere);
-    };
-    WordAnswer::Good(be16(s[3 + place], s[4 + place]))
+    let size = head.size;
+    FieldsAnswer::Good {
+        option: fields_of(head, &s[FRAME_LEN..size]),
+        size,
+    }
 }
 
-// The priority of a load balancing option.
-pub fn priority(s: &[u8]) -> WordAnswer
-    ensures { λ r. ⌜ word-said r ≡ asked (of-load-balancing priority) (now (s .entry)) ⌝ }
+// What stands behind the first byte of the option in front of `s`: a configuration option's string, an unknown option's bytes; none where it is
+// refused.
+pub fn option_rest(s: &[u8]) -> &[u8]
+    ensures { λ r. ⌜ now r ≡ rest-of (now (s .entry)) ⌝ }
 {
-    balancing(s, 1)
-}
-
-// The weight of a load balancing option.
-pub fn weight(s: &[u8]) -> WordAnswer
-    ensures { λ r. ⌜ word-said r ≡ asked (of-load-balancing weight) (now (s .entry)) ⌝ }
-{
-    balancing(s, 3)
-}
-
-// How many bytes a configuration option's string has.
-pub fn string_size(s: &[u8]) -> SizeAnswer
-    ensures { λ r. ⌜ size-said r ≡ size-asked (of-configuration string) (now (s .entry)) ⌝ }
-{
-    let answer = read_option_unscanned(s);
-    let OptionAnswer::Good(head) = answer else {
-        return SizeAnswer::Refused(option_refusal(answer));
-    };
-    let kind = kind_of(head.code);
-    let OptionKind::Configuration = kind else {
-        return SizeAnswer::Refused(Refusal::NothingThere);
-    };
-    SizeAnswer::Good(head.size - 4)
-}
-
-// How many bytes an unknown option has after the first.
-pub fn unknown_size(s: &[u8]) -> SizeAnswer
-    ensures { λ r. ⌜ size-said r ≡ size-asked (of-unknown string) (now (s .entry)) ⌝ }
-{
-    let answer = read_option_unscanned(s);
-    let OptionAnswer::Good(head) = answer else {
-        return SizeAnswer::Refused(option_refusal(answer));
-    };
-    let kind = kind_of(head.code);
-    let OptionKind::Unknown(_) = kind else {
-        return SizeAnswer::Refused(Refusal::NothingThere);
-    };
-    SizeAnswer::Good(head.size - 4)
-}
-
-// An unknown option's type.
-pub fn unknown_type(s: &[u8]) -> ByteAnswer
-    ensures { λ r. ⌜ byte-said r ≡ unknown-type (now (s .entry)) ⌝ }
-{
-    let answer = read_option_unscanned(s);
-    let OptionAnswer::Good(head) = answer else {
-        return ByteAnswer::Refused(option_refusal(answer));
-    };
-    let kind = kind_of(head.code);
-    let OptionKind::Unknown(code) = kind else {
-        return ByteAnswer::Refused(Refusal::NothingThere);
-    };
-    ByteAnswer::Good(code)
-}
-
-// The bytes of a field that stands behind the option's first byte; none where it is refused.
-fn behind_first(s: &[u8], answer: SizeAnswer) -> &[u8]
-    requires { ⌜ end-of answer ≤ length (now s) ⌝ }
-    ensures { λ r. ⌜ now r ≡ part (given (λ (n : ℕ). take n (drop 4 (now (s .entry)))) (size-said answer)) ⌝ }
-{
-    let SizeAnswer::Good(size) = answer else {
-        return &s[0..0];
-    };
-    let end = 4 + size;
-    &s[4..end]
-}
-
-// The address: 4 or 16 bytes, none where `address_size` refuses.
-pub fn address(s: &[u8]) -> &[u8]
-    ensures { λ r. ⌜ now r ≡ part (asked (of-address address-bytes) (now (s .entry))) ⌝ }
-{
-    behind_first(s, address_size(s))
-}
-
-// A configuration option's string; none where `string_size` refuses.
-pub fn string(s: &[u8]) -> &[u8]
-    ensures { λ r. ⌜ now r ≡ part (asked (of-configuration string) (now (s .entry))) ⌝ }
-{
-    behind_first(s, string_size(s))
-}
-
-// An unknown option's bytes after the first; none where `unknown_size` refuses.
-pub fn unknown_bytes(s: &[u8]) -> &[u8]
-    ensures { λ r. ⌜ now r ≡ part (asked (of-unknown string) (now (s .entry))) ⌝ }
-{
-    behind_first(s, unknown_size(s))
+    let body = option_bytes(s);
+    if body.len() == 0 {
+        return body;
+    }
+    &body[1..]
 }

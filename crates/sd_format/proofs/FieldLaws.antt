@@ -34,7 +34,7 @@ judged-by : (r : Row) (body : List ℕ) (type : ℕ) → row-of type ≡ r
 unfolding judge-kind
 judged-by r body type e = ap (λ (q : Row). judge-length (q .len) (length body) >> judge-text scanned (q .kind) body) e
 
-exact-length : (n : ℕ) (body : List ℕ) → (judge-length (exactly n) (length body) ≡ pass) ↔ (length body ≡ n)
+pub exact-length : (n : ℕ) (body : List ℕ) → (judge-length (exactly n) (length body) ≡ pass) ↔ (length body ≡ n)
 unfolding judge-length
 exact-length n body =
     let t = refuse-pass _ (eqb (length body) n) in
@@ -93,7 +93,7 @@ widths : (family : Family) → address-length family ≡ width family
 widths ipv4 = refl
 widths ipv6 = refl
 
-lengths : (family : Family) → lay-length family ≡ 5 + width family
+pub lengths : (family : Family) → lay-length family ≡ 5 + width family
 lengths ipv4 = refl
 lengths ipv6 = refl
 
