@@ -133,7 +133,7 @@ unscanned-option s f e =
     let (judged, same) = then-accepted _ _ _ e2 in
     bind-pass _ _ p framed ∙ then-pass _ _ (then-pass _ _ (then-accepted _ _ _ judged .0) ∙ unscanned-text (kind-of (p .type)) (p .body)) ∙ same
 
-length-zeros : (n : ℕ) → length (zeros n) ≡ n
+pub length-zeros : (n : ℕ) → length (zeros n) ≡ n
 unfolding zeros
 length-zeros n = length-replicate n 0
 

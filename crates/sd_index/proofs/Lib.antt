@@ -1,8 +1,8 @@
-pub mod PermissionLaws
 pub mod SlotLaws
+pub mod PermissionLaws
 pub mod Turns
 pub mod IndexLaws
 pub mod FoundLaws
-pub mod StepLaws
 pub mod OptionPinned
+pub mod StepLaws
 pub mod OneOutcome

@@ -1,52 +1,32 @@
 -- Each promise of this crate allows one outcome: the answer, and the whole lent table where there is one. (A part is promised byte by byte, so
 -- there is nothing to show of it.) Assumes nothing.
 use Prim.Native.Nat.{ℕ}
-use mathlib.Core.Path.{_≡_, refl, sym, ap, _∙_}
+use mathlib.Core.Path.{_≡_, sym, ap, _∙_}
 use mathlib.Core.List.{List}
-use Rattle.numbers.specs.Answers.{Answer, accepted, given}
-use Rattle.numbers.proofs.AnswerLaws.{accepted-inj, refused-inj, not-refused}
+use Rattle.numbers.specs.Answers.{Answer, given}
+use Rattle.numbers.proofs.AnswerLaws.{accepted-inj, not-refused}
 use Rattle.sd_format.specs.Frames.{Frame, Run, next-option}
-use Rattle.refusal.proofs.OneToOne.{one-to-one}
-use Rattle.sd_option.specs.declared.reading.OptionHead.{OptionHead}
-use Rattle.sd_option.specs.declared.reading.OptionAnswer.the-variants as option
-use Rattle.sd_option.specs.Reading.{head-said, head-of}
+use Rattle.refusal.specs.declared.answers.Count.{Count}
+use Rattle.refusal.proofs.OneToOne.{same-refusal, count-one-to-one}
+use Rattle.sd_option.specs.Reading.{head-of}
 use Rattle.sd_option.proofs.OneAnswer.{one-option-answer}
-use Rattle.sd_index.specs.Said.{index-said}
-use Rattle.sd_index.specs.Indexed.{Indexed, cleared}
-use Rattle.sd_index.specs.Found.{Located, located-said, found-said, look-up-told}
-use Rattle.sd_index.specs.Steps.{run-of, run-said, OptionStepped, RunStepped}
-use Rattle.sd_index.specs.declared.reading.IndexAnswer.{IndexAnswer}
-use Rattle.sd_index.specs.declared.reading.IndexAnswer.the-variants as index
-use Rattle.sd_index.specs.declared.lookup.Found.{Found}
 use Rattle.sd_index.specs.declared.lookup.FoundAnswer.{FoundAnswer}
 use Rattle.sd_index.specs.declared.lookup.FoundAnswer.the-variants as found
 use Rattle.sd_index.specs.declared.cursor.OptionCursor.{OptionCursor}
 use Rattle.sd_index.specs.declared.cursor.OptionStep.{OptionStep}
 use Rattle.sd_index.specs.declared.cursor.RunCursor.{RunCursor}
 use Rattle.sd_index.specs.declared.cursor.RunStep.{RunStep}
+use Rattle.sd_index.specs.Indexed.{Indexed, cleared}
+use Rattle.sd_index.specs.Found.{found-said, look-up-told}
+use Rattle.sd_index.specs.Steps.{run-of, run-said, OptionStepped, RunStepped}
 
 -- ---- what is said of them keeps them apart
 
-index-one : (x y : IndexAnswer) → index-said x ≡ index-said y → x ≡ y
-index-one (index.Good n) (index.Good m) same = ap index.Good (accepted-inj n m same)
-index-one (index.Good n) (index.Refused q) same = not-refused _ _ (sym same)
-index-one (index.Refused r) (index.Good m) same = not-refused _ _ same
-index-one (index.Refused r) (index.Refused q) same = ap index.Refused (one-to-one r q (refused-inj _ _ same))
-
-head-one : (x y : OptionHead) → head-said x ≡ head-said y → x ≡ y
-head-one x y same = let e = one-option-answer (accepted (head-said y)) (option.Good x) (option.Good y) (ap accepted same) refl in cc
-
-located-one : (x y : Found) → located-said x ≡ located-said y → x ≡ y
-located-one x y same =
-    let offset = ap (λ (l : Located). l .offset) same in
-    let head = head-one (x .head) (y .head) (ap (λ (l : Located). l .head) same) in
-    λ i. record { offset = record { 0 = offset i }; head = head i }
-
 found-one : (x y : FoundAnswer) → found-said x ≡ found-said y → x ≡ y
-found-one (found.Good f) (found.Good g) same = ap found.Good (located-one f g (accepted-inj _ _ same))
-found-one (found.Good f) (found.Refused q) same = not-refused _ _ (sym same)
-found-one (found.Refused r) (found.Good g) same = not-refused _ _ same
-found-one (found.Refused r) (found.Refused q) same = ap found.Refused (one-to-one r q (refused-inj _ _ same))
+found-one (found.Good f) (found.Good g) same = ap found.Good (accepted-inj f g same)
+found-one (found.Good f) (found.Refused q) same = not-refused _ f (sym same)
+found-one (found.Refused r) (found.Good g) same = not-refused _ g same
+found-one (found.Refused r) (found.Refused q) same = ap found.Refused (same-refusal r q same)
 
 place-one : (x y : OptionCursor) → x .at .0 ≡ y .at .0 → x ≡ y
 place-one x y same = λ i. record { at = record { 0 = same i } }
@@ -57,8 +37,8 @@ run-one x y same = λ i. record { next = record { 0 = same i .next }; left = sam
 -- ---- so a promise allows one
 
 -- `read_options` and `read_index`
-pub index-only : (a : Answer (List Frame)) (tab tab₁ tab₂ : List ℕ) (x y : IndexAnswer) → Indexed a tab tab₁ x → Indexed a tab tab₂ y → (x ≡ y) × (tab₁ ≡ tab₂)
-index-only a tab tab₁ tab₂ x y p q = (index-one x y (p .told ∙ sym (q .told)), p .slots ∙ sym (q .slots))
+pub index-only : (a : Answer (List Frame)) (tab tab₁ tab₂ : List ℕ) (x y : Count) → Indexed a tab tab₁ x → Indexed a tab tab₂ y → (x ≡ y) × (tab₁ ≡ tab₂)
+index-only a tab tab₁ tab₂ x y p q = (count-one-to-one x y (p .told ∙ sym (q .told)), p .slots ∙ sym (q .slots))
 
 -- `clear_slots`
 pub clear-only : (tab tab₁ tab₂ : List ℕ) → tab₁ ≡ cleared tab → tab₂ ≡ cleared tab → tab₁ ≡ tab₂

@@ -12,8 +12,10 @@ use Rattle.sd_format.specs.Kinds.{scanned, unscanned}
 use Rattle.sd_format.specs.Sequences.{next-at}
 use Rattle.sd_format.specs.Frames.{Frame, size, one-option, misfit, look-up, next-option}
 use Rattle.sd_format.proofs.FrameLaws.{option-says}
-use Rattle.sd_option.specs.Reading.{Head, head-of}
-use Rattle.sd_index.specs.Found.{Located, located, look-up-told, Pinned}
+use Rattle.sd_option.specs.declared.reading.OptionHead.{OptionHead}
+use Rattle.sd_option.specs.Reading.{head-of}
+use Rattle.sd_index.specs.declared.lookup.Found.{Found}
+use Rattle.sd_index.specs.Found.{located, look-up-told, Pinned}
 
 pinned : (text : List ℕ → Verdict) (s : List ℕ) (at n : ℕ) (f : Frame) → one-option text (drop at s) ≡ accepted f → size f ≡ n → Pinned text s at n f
 pinned text s at n f reads e =
@@ -25,30 +27,29 @@ pinned text s at n f reads e =
       body = sym (w .body-at) ∙ ap (take (length (f .body))) (drop-drop 3 at s) ∙ ap (λ (m : ℕ). take m (drop (at + 3) s)) k;
     }
 
-fitting : (a : Answer Frame) (f : Frame) → misfit a ≡ accepted f → a ≡ accepted f
-unfolding misfit
-fitting (accepted x) f e = e
-fitting (refused r) f e = not-refused _ f e
-
 -- where lookup found an option, it stands at its slot's offset
 pub slot-reads : (s tab : List ℕ) (count k : ℕ) (f : Frame) → look-up s tab count k ≡ accepted f → one-option unscanned (drop (getD tab k 0) s) ≡ accepted f
-unfolding look-up
+unfolding look-up misfit
 slot-reads s tab count k f e =
     let counted = when-accepted _ _ _ f e in
     let slot = when-accepted _ _ _ f (counted .1) in
     let lent = when-accepted _ _ _ f (slot .1) in
-    fitting (one-option unscanned (drop (getD tab k 0) s)) f (lent .1)
+    fitting (one-option unscanned (drop (getD tab k 0) s)) (lent .1)
+  where
+    fitting : (a : Answer Frame) → misfit a ≡ accepted f → a ≡ accepted f
+    fitting (accepted x) e = e
+    fitting (refused r) e = not-refused _ f e
 
-pub found-pinned : (s tab : List ℕ) (count k : ℕ) (l : Located) → look-up-told s tab count k ≡ accepted l
-    → (f : Frame) × (look-up s tab count k ≡ accepted f) × Pinned unscanned s (l .offset) (l .head .size) f
+pub found-pinned : (s tab : List ℕ) (count k : ℕ) (l : Found) → look-up-told s tab count k ≡ accepted l
+    → (f : Frame) × (look-up s tab count k ≡ accepted f) × Pinned unscanned s (l .offset .0) (l .head .size) f
 found-pinned s tab count k l e =
     let (f, found, told) = given-accepted (located (getD tab k 0)) (look-up s tab count k) l e in
-    let at : getD tab k 0 ≡ l .offset = ap (λ (x : Located). x .offset) told in
-    (f, found, pinned unscanned s (l .offset) (l .head .size) f (sym (ap (λ (m : ℕ). one-option unscanned (drop m s)) at) ∙ slot-reads s tab count k f found) (ap (λ (x : Located). x .head .size) told))
+    let at : getD tab k 0 ≡ l .offset .0 = ap (λ (x : Found). x .offset .0) told in
+    (f, found, pinned unscanned s (l .offset .0) (l .head .size) f (sym (ap (λ (m : ℕ). one-option unscanned (drop m s)) at) ∙ slot-reads s tab count k f found) (ap (λ (x : Found). x .head .size) told))
 
-pub next-pinned : (s : List ℕ) (at : ℕ) (h : Head) → given head-of (next-option s at) ≡ accepted h
+pub next-pinned : (s : List ℕ) (at : ℕ) (h : OptionHead) → given head-of (next-option s at) ≡ accepted h
     → (f : Frame) × (next-option s at ≡ accepted f) × Pinned scanned s at (h .size) f
 unfolding next-at
 next-pinned s at h e =
     let (f, found, told) = given-accepted head-of (next-option s at) h e in
-    (f, found, pinned scanned s at (h .size) f (when-accepted _ _ _ f found .1) (ap (λ (x : Head). x .size) told))
+    (f, found, pinned scanned s at (h .size) f (when-accepted _ _ _ f found .1) (ap (λ (x : OptionHead). x .size) told))

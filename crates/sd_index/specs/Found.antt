@@ -6,31 +6,24 @@ use lib.ListN.{take, drop, getD}
 use Rattle.numbers.specs.Answers.{Answer, accepted, refused, Verdict, given}
 use Rattle.sd_format.specs.Frames.{Frame, one-option, look-up}
 use Rattle.refusal.specs.Said.{said}
-use Rattle.sd_option.specs.Reading.{Head, head-of, head-said}
+use Rattle.sd_option.specs.Reading.{head-of}
 use Rattle.sd_index.specs.declared.lookup.Found.{Found}
 use Rattle.sd_index.specs.declared.lookup.FoundAnswer.{FoundAnswer}
 use Rattle.sd_index.specs.declared.lookup.FoundAnswer.the-variants as found
 
--- an option that was found: where it starts, and what is told of it
-pub record Located : Type 0 where
-  pub offset : ℕ
-  pub head : Head
+-- what is told of the option that starts at `at`
+abbrev pub located : ℕ → Frame → Found
+located at f = record { offset = record { 0 = at }; head = head-of f }
 
-abbrev pub located : ℕ → Frame → Located
-located at f = record { offset = at; head = head-of f }
-
-abbrev pub located-said : Found → Located
-located-said f = record { offset = f .offset .0; head = head-said (f .head) }
-
-abbrev pub found-said : FoundAnswer → Answer Located
-found-said (found.Good f) = accepted (located-said f)
+abbrev pub found-said : FoundAnswer → Answer Found
+found-said (found.Good f) = accepted f
 found-said (found.Refused r) = refused (said r)
 
 -- what is told where a table gave this for the option of number `k`: it starts where its slot says
-abbrev pub by-table : List ℕ → ℕ → Answer Frame → Answer Located
+abbrev pub by-table : List ℕ → ℕ → Answer Frame → Answer Found
 by-table tab k = given (located (getD tab k 0))
 
-abbrev pub look-up-told : (s tab : List ℕ) (count k : ℕ) → Answer Located
+abbrev pub look-up-told : (s tab : List ℕ) (count k : ℕ) → Answer Found
 look-up-told s tab count k = by-table tab k (look-up s tab count k)
 
 -- ---- what is told pins the option

@@ -1,10 +1,10 @@
 // The cursors, by value: one over all options of an options part, by their bytes, and one over a run of them, by the table.
+use crate::Offset;
+use crate::Ordinal;
 use crate::lookup::FoundAnswer;
 use crate::lookup::look_up;
 use crate::lookup::option_at;
 use refusal::Refusal;
-use sd_option::Offset;
-use sd_option::Ordinal;
 use sd_option::reading::OptionAnswer;
 use sd_option::reading::read_option;
 ghost use mathlib.Core.Path.{_≡_};

@@ -14,7 +14,6 @@ pub use lookup::Found;
 pub use lookup::FoundAnswer;
 pub use lookup::look_up;
 pub use lookup::option_at;
-pub use reading::IndexAnswer;
 pub use reading::read_index;
 pub use reading::read_options;
 pub use slots::clear_slots;
@@ -25,8 +24,8 @@ pub const SLOTS: usize = 347;
 // The options length that a payload can have at most.
 pub const MAX_OPTIONS_LEN: usize = 1388;
 
-// The settings of a reading.
-pub struct Settings {
-    // An unknown option is accepted although it may not be discarded.
-    pub discard_unknown_option: bool,
-}
+// An option's place in the count.
+pub struct Ordinal(pub usize);
+
+// An option's byte offset in the options part.
+pub struct Offset(pub usize);

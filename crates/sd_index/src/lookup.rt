@@ -1,9 +1,9 @@
 // Lookup: the option of a number, by a table of byte offsets. It writes nothing, and whatever the table, the count and the number are, there
 // is an answer.
+use crate::Offset;
+use crate::Ordinal;
 use crate::SLOTS;
 use refusal::Refusal;
-use sd_option::Offset;
-use sd_option::Ordinal;
 use sd_option::reading::OptionAnswer;
 use sd_option::reading::OptionHead;
 use sd_option::reading::read_option_unscanned;

@@ -1,43 +1,39 @@
 // Whether an unknown option may stand: it needs the discardable bit, unless the discard setting is on. Of several options the first that may
 // not counts.
-use crate::Settings;
+use refusal::Refusal;
+use refusal::Verdict;
+use sd_option::Settings;
 use sd_option::kinds::OptionKind;
 use sd_option::kinds::kind_of;
 use sd_option::reading::OptionHead;
 ghost use mathlib.Core.Path.{_≡_};
-ghost use Rattle.sd_option.specs.Reading.{head-said};
-ghost use Rattle.sd_index.specs.Said.{settings-said, permission-said, both};
-ghost use Rattle.sd_index.specs.Permission.{permit-told};
-
-pub enum Permission {
-    Passed,
-    // The type of the option that may not stand.
-    Refused(u8),
-}
+ghost use Rattle.refusal.specs.Said.{verdict-said};
+ghost use Rattle.sd_option.specs.Settings.{settings-said};
+ghost use Rattle.sd_index.specs.Permission.{permit-told, both};
 
 // Whether this option may stand.
-pub(crate) fn permission_of(settings: Settings, head: OptionHead) -> Permission
-    ensures { λ r. ⌜ permission-said r ≡ permit-told (settings-said settings) (head-said head) ⌝ }
+pub(crate) fn permission_of(settings: Settings, head: OptionHead) -> Verdict
+    ensures { λ r. ⌜ verdict-said r ≡ permit-told (settings-said settings) head ⌝ }
 {
     let kind = kind_of(head.code);
-    let OptionKind::Unknown(_) = kind else {
-        return Permission::Passed;
+    let OptionKind::Unknown = kind else {
+        return Verdict::Passed;
     };
     if settings.discard_unknown_option {
-        return Permission::Passed;
+        return Verdict::Passed;
     }
     if head.discardable {
-        return Permission::Passed;
+        return Verdict::Passed;
     }
-    Permission::Refused(head.code)
+    Verdict::Refused(Refusal::UnknownOption(head.code))
 }
 
 // The earlier refusal, if there is one.
-pub(crate) fn first(earlier: Permission, later: Permission) -> Permission
-    ensures { λ r. ⌜ permission-said r ≡ both earlier later ⌝ }
+pub(crate) fn first(earlier: Verdict, later: Verdict) -> Verdict
+    ensures { λ r. ⌜ verdict-said r ≡ both earlier later ⌝ }
 {
-    match earlier {
-        Permission::Passed => later,
-        Permission::Refused(option_type) => Permission::Refused(option_type),
-    }
+    let Verdict::Passed = earlier else {
+        return earlier;
+    };
+    later
 }

@@ -1,108 +1,77 @@
 // All options of an options part, in one pass: their offsets into the lent table, and whether each may stand.
 use crate::MAX_OPTIONS_LEN;
+use crate::Offset;
+use crate::Ordinal;
 use crate::SLOTS;
-use crate::Settings;
-use crate::permission::Permission;
+use crate::lookup::option_at;
 use crate::permission::first;
 use crate::permission::permission_of;
-use crate::slots::zero_from;
+use crate::slots::clear_slots;
+use crate::slots::write_slot;
+use refusal::Count;
 use refusal::Refusal;
-use sd_option::Offset;
+use refusal::Verdict;
+use sd_option::Settings;
 use sd_option::reading::OptionAnswer;
-use sd_option::reading::option_refusal;
 use sd_option::reading::read_option_unscanned;
-ghost use mathlib.Core.Path.{_≡_};
+use sd_option::reading::scan;
 ghost use Prim.Native.Nat.{_≤_};
 ghost use lib.ListN.{length};
-ghost use Rattle.sd_index.specs.Said.{settings-said, swept-refusal};
+ghost use Rattle.sd_format.specs.Frames.{read-index};
+ghost use Rattle.sd_option.specs.Settings.{settings-said};
 ghost use Rattle.sd_index.specs.Indexed.{Sweeps, Indexed, indexed};
-ghost use Rattle.sd_format.specs.Frames.{read-index, table-after};
 
-pub enum IndexAnswer {
-    // How many options there are.
-    Good(usize),
-    Refused(Refusal),
-}
-
-// What the pass over all options found: how many there are and the first that may not stand, or the first that does not decode.
-pub enum Swept {
-    Done {
-        count: usize,
-        permission: Permission,
-    },
-    Refused(Refusal),
-}
-
-// An offset as a slot holds it.
-fn slot_of(offset: Offset) -> u16
-    requires { ⌜ offset .0 ≤ 1388 ⌝ }
-    ensures { λ r. ⌜ r ≡ offset .0 ⌝ }
-{
-    offset.0 as u16
-}
-
-// One pass over the options: the place of each into the table, from its first slot on.
-fn sweep(settings: Settings, options: &[u8], table: &mut [u16]) -> Swept
+// One pass over the options: the offset of each into the table, from its first slot on; then 10 for the first that may not stand.
+fn sweep(settings: Settings, options: &[u8], table: &mut [u16]) -> Count
     requires { ⌜ (347 ≤ length (now table)) × (length (now options) ≤ 1388) ⌝ }
     ensures { λ r. ⌜ Sweeps (settings-said settings) (now (options .entry)) (now (table .entry)) (now (table .exit)) r ⌝ }
 {
-    let mut at: usize = 0;
-    let mut count: usize = 0;
-    let mut permission = Permission::Passed;
-    while at < options.len() {
-        let rest = &options[at..];
-        let answer = read_option_unscanned(rest).scanned(rest); // read_option, in its two halves
+    let mut at = Offset(0);
+    let mut count = Ordinal(0);
+    let mut permission = Verdict::Passed;
+    while at.0 < options.len() {
+        let rest = option_at(options, at);
+        let answer = read_option_unscanned(rest); // read_option, in its two halves
         let OptionAnswer::Good(head) = answer else {
-            return Swept::Refused(option_refusal(answer));
+            return Count::Refused(answer.refusal());
         };
-        table[count] = slot_of(Offset(at));
+        let string = scan(head, rest);
+        let Verdict::Passed = string else {
+            return Count::Refused(string.refusal());
+        };
+        write_slot(table, count, at);
         permission = first(permission, permission_of(settings, head));
-        count += 1;
-        at += head.size;
+        count = Ordinal(count.0 + 1);
+        at = Offset(at.0 + head.size);
     }
-    Swept::Done { count, permission }
+    let Verdict::Passed = permission else {
+        return Count::Refused(permission.refusal());
+    };
+    Count::Good(count.0)
 }
 
-// Why the pass ended early.
-fn swept_refusal(swept: Swept) -> Refusal
-    ensures { λ r. ⌜ r ≡ swept-refusal swept ⌝ }
-{
-    match swept {
-        Swept::Done {
-            count: _,
-            permission: _,
-        } => Refusal::NothingThere,
-        Swept::Refused(refusal) => refusal,
-    }
-}
-
-// All options of an options part, with their offsets in the lent table: 22, 13, each option from the front, then 10 for the first unknown one
-// that may not stand.
-pub fn read_options(settings: Settings, options: &[u8], table: &mut [u16]) -> IndexAnswer
+// All options of an options part, with their offsets in the lent table, and how many they are: 22, 13, each option from the front, then 10 for the
+// first unknown one that may not stand.
+pub fn read_options(settings: Settings, options: &[u8], table: &mut [u16]) -> Count
     ensures { λ r. ⌜ Indexed (indexed (settings-said settings) (now (options .entry))) (now (table .entry)) (now (table .exit)) r ⌝ }
 {
     if table.len() < SLOTS {
-        return IndexAnswer::Refused(Refusal::FewSlots(table.len()));
+        return Count::Refused(Refusal::FewSlots(table.len()));
     }
+    clear_slots(table);
     if MAX_OPTIONS_LEN < options.len() {
-        zero_from(table, 0);
-        return IndexAnswer::Refused(Refusal::IndexTooLarge(options.len()));
+        return Count::Refused(Refusal::IndexTooLarge(options.len()));
     }
-    let all = sweep(settings, options, table);
-    let Swept::Done { count, permission } = all else {
-        zero_from(table, 0);
-        return IndexAnswer::Refused(swept_refusal(all));
+    let answer = sweep(settings, options, table);
+    let Count::Good(_) = answer else {
+        clear_slots(table);
+        return answer;
     };
-    if let Permission::Refused(option_type) = permission {
-        zero_from(table, 0);
-        return IndexAnswer::Refused(Refusal::UnknownOption(option_type));
-    }
-    zero_from(table, count);
-    IndexAnswer::Good(count)
+    answer
 }
 
 // The index alone: 22, 13, then the options, unknown ones whether they may be discarded or not.
-pub fn read_index(options: &[u8], table: &mut [u16]) -> IndexAnswer
+pub fn read_index(options: &[u8], table: &mut [u16]) -> Count
     ensures { λ r. ⌜ Indexed (read-index (now (options .entry))) (now (table .entry)) (now (table .exit)) r ⌝ }
 {
     read_options(

@@ -1,67 +1,63 @@
 -- `lookup::look_up` meets its contract: each test in its order, then the option at the slot's offset. Assumes nothing.
+use Prim.Native.Nat.{ℕ}
+use mathlib.Core.Path.{_≡_, sym, ap, _∙_}
+use mathlib.Core.List.{List}
 use native.Mathlib.Omega.{arith}
 use borrow.Author.Needs.{needs}
-use Rattle.sd_index.specs.Found.{located}
-use Rattle.sd_index.proofs.FoundLaws.{told-refused, past-count, past-slots, past-table, told-misfit, told-found}
+use lib.ListN.{getD}
+use Rattle.numbers.specs.Answers.{accepted, given}
+use Rattle.sd_format.specs.Kinds.{unscanned}
+use Rattle.sd_format.specs.Frames.{one-option, misfit, look-up}
+use Rattle.sd_option.specs.declared.reading.OptionHead.{OptionHead}
+use Rattle.sd_option.proofs.ReadingLaws.{found, not-found}
+use Rattle.sd_index.specs.Found.{by-table}
+use Rattle.sd_index.proofs.FoundLaws.{past-count, past-slots, past-table, by-slot}
 use Rattle.sd_index.proofs.lookup.look_up.Statement.{statement}
 use Rattle.sd_index.proofs.lookup.look_up.Tie as tie
 
 returns : tie.Need-returns
 returns c =
-    let start = c .before .before .before in
-    told-refused (located _) (past-count (start .args .options .now) (start .args .table .now) (start .args .count) (start .args .ordinal .0) (omega arith))
+    let args = c .before .before .before .args in
+    past-count (args .options .now) (args .table .now) (args .count) (args .ordinal .0) (omega arith)
 
 returns-2 : tie.Need-returns-2
 returns-2 c =
-    let start = c .before .before .before .before in
-    told-refused (located _)
-    (past-slots (start .args .options .now) (start .args .table .now) (start .args .count) (start .args .ordinal .0) (omega arith) (omega arith))
+    let args = c .before .before .before .before .args in
+    past-slots (args .options .now) (args .table .now) (args .count) (args .ordinal .0) (omega arith) (omega arith)
 
 returns-3 : tie.Need-returns-3
 returns-3 c =
-    let start = c .before .before .before .before .before in
-    told-refused (located _)
-    (past-table (start .args .options .now) (start .args .table .now) (start .args .count) (start .args .ordinal .0) (omega arith) (omega arith) (omega arith))
-
-mul-t12 : tie.Need-mul-t12
-mul-t12 c = search needs
-
-shared-slice-read-t15 : tie.Need-shared-slice-read-t15
-shared-slice-read-t15 c = search needs
+    let args = c .before .before .before .before .before .args in
+    past-table (args .options .now) (args .table .now) (args .count) (args .ordinal .0) (omega arith) (omega arith) (omega arith)
 
 cast-t16 : tie.Need-cast-t16
 cast-t16 c = omega (arith, c .shared-slice-known3 .given (c .before .before .before .before .before .before .args .ordinal .0))
 
-option-at-requires : tie.Need-option-at-requires
-option-at-requires c κs = search needs
+-- by the bytes at the slot's offset
+module _ (c : tie.After-option-at) where
+  abbrev start : tie.Start
+  start = c .before .before .before .before .before .before .before
 
-read-option-unscanned-requires : tie.Need-read-option-unscanned-requires
-read-option-unscanned-requires c κs = search needs
-
-enum-known-answer : tie.Need-enum-known-answer
-enum-known-answer c = search needs
-
-enum-told : tie.Need-enum-told
-enum-told c = search needs
+  looks : look-up (start .args .options .now) (start .args .table .now) (start .args .count) (start .args .ordinal .0) ≡ misfit (one-option unscanned (c .option-at .result .now))
+  looks =
+      by-slot (start .args .options .now) (start .args .table .now) (start .args .count) (start .args .ordinal .0) (omega arith) (omega arith) (omega arith)
+      ∙ sym (ap (λ (b : List ℕ). misfit (one-option unscanned b)) (c .option-at .ensures))
 
 returns-4 : tie.Need-returns-4
+unfolding misfit given
 returns-4 c =
     let read = c .before .before in
-    let part = read .before in
-    let test = part .before .before in
-    let start = test .before .before .before .before .before in
-    told-misfit (start .args .options .now) (start .args .table .now) (start .args .count) (start .args .ordinal .0) (omega arith) (omega arith) (omega arith)
-    _ (part .option-at .ensures) (read .read-option-unscanned .result) (read .read-option-unscanned .ensures) _ (c .enum-told .given .1)
+    let args = start (read .before) .args in
+    sym (ap (by-table (args .table .now) (args .ordinal .0)) (looks (read .before) ∙ ap misfit (not-found unscanned _ _ (read .read-option-unscanned .ensures) _ (c .enum-told .given .1))))
 
 returns-5 : tie.Need-returns-5
+unfolding misfit given
 returns-5 c =
-    let answer = c .before in
-    let read = answer .before .before in
-    let part = read .before in
-    let test = part .before .before in
-    let start = test .before .before .before .before .before in
-    told-found (start .args .options .now) (start .args .table .now) (start .args .count) (start .args .ordinal .0) (omega arith) (omega arith) (omega arith)
-    _ (part .option-at .ensures) (read .read-option-unscanned .result) (read .read-option-unscanned .ensures) _ (answer .answer .given .1)
+    let read = c .before .before .before in
+    let args = start (read .before) .args in
+    let t = found unscanned _ _ (read .read-option-unscanned .ensures) _ (c .before .answer .given .1) in
+    sym (ap (by-table (args .table .now) (args .ordinal .0)) (looks (read .before) ∙ ap misfit (t .reads))
+    ∙ ap (λ (h : OptionHead). accepted (record { offset = record { 0 = getD (args .table .now) (args .ordinal .0) 0 }; head = h })) (t .head))
 
 pub look-up-spec : {M : Type 1} → statement M
 look-up-spec =
@@ -70,12 +66,12 @@ look-up-spec =
     returns
     returns-2
     returns-3
-    mul-t12
-    shared-slice-read-t15
+    (λ c. search needs)
+    (λ c. search needs)
     cast-t16
-    option-at-requires
-    read-option-unscanned-requires
-    enum-known-answer
-    enum-told
+    (λ c κs. search needs)
+    (λ c κs. search needs)
+    (λ c. search needs)
+    (λ c. search needs)
     returns-4
     returns-5)

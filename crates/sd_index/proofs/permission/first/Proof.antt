@@ -5,19 +5,13 @@ use Rattle.numbers.specs.Answers.{_>>_}
 use Rattle.sd_index.proofs.permission.first.Statement.{statement}
 use Rattle.sd_index.proofs.permission.first.Tie as tie
 
-enum-told : tie.Need-enum-told
-enum-told c = search needs
-
-enum-known-earlier : tie.Need-enum-known-earlier
-enum-known-earlier c = search needs
-
 returns : tie.Need-returns
 unfolding _>>_
-returns c = rw (c .enum-told .given .1) refl
+returns c = rw (c .enum-told2 .given .1) refl
 
 returns-2 : tie.Need-returns-2
 unfolding _>>_
-returns-2 c = rw (c .before .earlier .given .1) refl
+returns-2 c = rw (c .enum-told .given .1) refl
 
 pub first-spec : {M : Type 1} → statement M
-first-spec = tie.close (tie.spec enum-told enum-known-earlier returns returns-2)
+first-spec = tie.close (tie.spec (λ c. search needs) (λ c. search needs) returns returns-2)

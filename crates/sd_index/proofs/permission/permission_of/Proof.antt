@@ -1,42 +1,50 @@
 -- `permission::permission_of` meets its contract: a known kind, an unknown one under the setting, with the bit, and without. Assumes nothing.
+use mathlib.Core.Path.{_≡_, sym, ap, ap₂, _∙_}
+use mathlib.Core.Bool.{Bool}
+use mathlib.Core.List.{[], _∷_}
 use borrow.Author.Needs.{needs}
-use Rattle.sd_index.specs.Said.{settings-said}
-use Rattle.sd_index.proofs.PermissionLaws.{known-passes, unknown-discarded, unknown-discardable, unknown-refused}
+use Rattle.numbers.specs.Answers.{refuse_when_else_}
+use Rattle.sd_option.specs.declared.kinds.OptionKind.the-variants.{Unknown}
+use Rattle.sd_option.specs.Kinds.{kind-said}
+use Rattle.sd_option.proofs.KindLaws.{other-arm}
+use Rattle.sd_option.specs.Settings.{settings-said}
+use Rattle.sd_index.specs.Permission.{permit-told}
+use Rattle.sd_index.proofs.PermissionLaws.{by-bits, known-passes, unknown-told}
 use Rattle.sd_index.proofs.permission.permission_of.Statement.{statement}
 use Rattle.sd_index.proofs.permission.permission_of.Tie as tie
-
-kind-of-requires : tie.Need-kind-of-requires
-kind-of-requires c κs = search needs
-
-enum-told : tie.Need-enum-told
-enum-told c = search needs
 
 returns : tie.Need-returns
 returns c =
     let k = c .before in
-    let a = k .before .args in
-    known-passes (settings-said (a .settings)) (a .head .code) (a .head .discardable) (a .head .size) (k .kind-of .result) (k .kind-of .ensures) (c .match .keys2)
+    sym (known-passes _ _ (λ is. other-arm Unknown (k .kind-of .result) (0 ∷ 1 ∷ 2 ∷ []) tt (c .match .keys2) (k .kind-of .ensures ∙ is)))
+
+-- of an unknown type, by the setting and the bit
+told : (c : tie.After-enum-told)
+    → permit-told (settings-said (c .before .before .before .args .settings)) (c .before .before .before .args .head)
+    ≡ by-bits (c .before .before .before .args .head .code) (c .before .before .before .args .settings .«discard_unknown_option») (c .before .before .before .args .head .discardable)
+told c = unknown-told _ _ (sym (c .before .before .kind-of .ensures) ∙ ap kind-said (c .enum-told .given .1))
 
 returns-2 : tie.Need-returns-2
+unfolding by-bits refuse_when_else_
 returns-2 c =
-    let e = c .before in
-    let k = e .before .before in
-    let a = k .before .args in
-    unknown-discarded (settings-said (a .settings)) (a .head .code) (a .head .discardable) (a .head .size) (k .kind-of .result) (k .kind-of .ensures) _ (e .enum-told .given .1) (c .if1 .taken)
+    let head = c .before .before .before .before .args .head in
+    sym (told (c .before) ∙ ap (λ (b : Bool). by-bits (head .code) b (head .discardable)) (c .if1 .taken))
 
 returns-3 : tie.Need-returns-3
-returns-3 c =
-    let e = c .before .before in
-    let k = e .before .before in
-    let a = k .before .args in
-    unknown-discardable (settings-said (a .settings)) (a .head .code) (a .head .discardable) (a .head .size) (k .kind-of .result) (k .kind-of .ensures) _ (e .enum-told .given .1) (c .if2 .taken)
+unfolding by-bits refuse_when_else_
+returns-3 c = sym (told (c .before .before) ∙ ap₂ (by-bits (c .before .before .before .before .before .args .head .code)) (c .before .if1 .left) (c .if2 .taken))
 
 returns-4 : tie.Need-returns-4
-returns-4 c =
-    let e = c .before .before in
-    let k = e .before .before in
-    let a = k .before .args in
-    unknown-refused (settings-said (a .settings)) (a .head .code) (a .head .discardable) (a .head .size) (k .kind-of .result) (k .kind-of .ensures) _ (e .enum-told .given .1) (c .before .if1 .left) (c .if2 .left)
+unfolding by-bits refuse_when_else_
+returns-4 c = sym (told (c .before .before) ∙ ap₂ (by-bits (c .before .before .before .before .before .args .head .code)) (c .before .if1 .left) (c .if2 .left))
 
 pub permission-of-spec : {M : Type 1} → statement M
-permission-of-spec = tie.close (tie.spec kind-of-requires enum-told returns returns-2 returns-3 returns-4)
+permission-of-spec =
+    tie.close
+    (tie.spec
+    (λ c κs. search needs)
+    (λ c. search needs)
+    returns
+    returns-2
+    returns-3
+    returns-4)

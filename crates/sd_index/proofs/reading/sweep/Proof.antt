@@ -1,164 +1,105 @@
--- `reading::sweep` meets its contract. The invariant: the options read so far, in front of those that are left, are all options; their places
--- stand in the table's first slots, and the first that may not stand is remembered. Assumes nothing.
-use Prim.Native.Nat.{ℕ, _+_, _-_, _≤_, _<_}
+-- `reading::sweep` meets its contract. The invariant: the options read so far stand before those that are read later, and their offsets in front of
+-- the table. The measure is what is left of the bytes. Assumes nothing.
+use Prim.Native.Nat.{ℕ, _-_}
 use mathlib.Core.Path.{_≡_, sym, ap, _∙_}
 use mathlib.Core.List.{List}
 use native.Mathlib.Omega.{arith}
 use borrow.Author.Needs.{needs}
-use lib.ListN.{length, take, drop}
-use denote.Ref.{now}
-use Rattle.numbers.specs.Answers.{Verdict, accepted, refused, given, _>>_}
-use Rattle.numbers.proofs.ByteLaws.{take-rest}
-use Rattle.sd_format.specs.Settings.{Settings}
-use Rattle.sd_format.specs.Frames.{Frame, size, read-option, all-options}
-use Rattle.refusal.specs.Said.{said}
-use Rattle.sd_option.specs.Reading.{Head, head-of, head-said, option-said, option-refusal, scan-told}
-use Rattle.sd_option.proofs.ReadingLaws.{given-accepted, given-refused, scan-reads}
-use Rattle.sd_index.specs.Said.{settings-said, permission-said}
-use Rattle.sd_index.specs.Permission.{permit-told}
-use Rattle.sd_index.proofs.PermissionLaws.{told-permits}
-use Rattle.sd_index.proofs.Turns.{Turn, turn-starts, turn-length, turn-past, turn-stops, turn-within, turn-next, turn-ends}
+use lib.ListN.{length, drop}
+use Rattle.numbers.specs.Answers.{Verdict, refused, given, _>>_}
+use Rattle.sd_format.specs.Kinds.{kind-of, judge-text, scanned, unscanned}
+use Rattle.sd_format.specs.Frames.{one-option}
+use Rattle.refusal.specs.declared.Refusal.{Refusal}
+use Rattle.refusal.specs.Said.{said, verdict-said, verdict-refusal}
+use Rattle.sd_option.specs.Settings.{settings-said}
+use Rattle.sd_option.specs.Reading.{head-of, option-said, option-refusal, behind-type}
+use Rattle.sd_option.proofs.ReadingLaws.{Found, found, not-found, refused-before, string-refused, string-passed}
+use Rattle.sd_index.proofs.Turns.{Turn, turn-starts, turn-stops, turn-within, turn-goes, turn-refuses, turn-ends}
 use Rattle.sd_index.proofs.reading.sweep.Statement.{statement}
 use Rattle.sd_index.proofs.reading.sweep.Tie as tie
 
 abbrev Inv-loop : tie.InvT-loop
 Inv-loop settings options table₀ at₀ count₀ permission₀ table at count permission =
-    Turn (settings-said settings) options table₀ table at count (permission-said permission)
+    Turn (settings-said settings) options table₀ table (at .0) (count .0) (verdict-said permission)
 
 abbrev μ-loop : tie.MeasureT-loop
-μ-loop settings options table₀ at₀ count₀ permission₀ table at count permission = length options - at
-
--- ---- at the loop's head: the settings, the bytes and the table at entry
-
-abbrev G : tie.At-loop Inv-loop μ-loop → Settings
-G c = settings-said (c .before .before .before .args .settings)
-
-abbrev S : tie.At-loop Inv-loop μ-loop → List ℕ
-S c = now (c .before .before .before .args .options)
-
-abbrev T : tie.At-loop Inv-loop μ-loop → List ℕ
-T c = now (c .before .before .before .args .table)
-
-sizes : (c : tie.In-loop Inv-loop μ-loop) → (c .before .loop .count < 347) × (c .before .loop .at < length (S (c .before))) × (length (S (c .before)) ≤ 1388) × (347 ≤ length (T (c .before)))
-sizes c =
-    let p = c .before .before .before .before .pre in
-    let t = c .before .loop .inv in
-    (omega (arith, t .few, c .loop-test .taken), c .loop-test .taken, p .1, p .0)
-
-long : (c : tie.In-loop Inv-loop μ-loop) → length (c .before .loop .table) ≡ length (T (c .before))
-long c =
-    let l = c .before .loop in
-    turn-length _ _ _ _ _ _ _ (l .inv) (omega (arith, sizes c))
-
--- ---- after the reading of one
-
-told : (c : tie.After-scanned Inv-loop μ-loop)
-    → option-said (c .scanned .result) ≡ given head-of (read-option (drop (c .before .before .before .before .loop .at) (S (c .before .before .before .before))))
-told c =
-    let l = c .before .before .before .before in
-    let rest = take (length (S l) - l .loop .at) (drop (l .loop .at) (S l)) in
-    c .scanned .ensures ∙ ap (scan-told rest) (c .before .read-option-unscanned .ensures) ∙ scan-reads rest
-    ∙ ap (λ (t : List ℕ). given head-of (read-option t)) (take-rest (S l) (l .loop .at))
-
--- the option that was read, where it is good
-frame-at : (c : tie.After-answer Inv-loop μ-loop)
-    → (f : Frame) × (read-option (drop (c .before .before .before .before .before .before .loop .at) (S (c .before .before .before .before .before .before))) ≡ accepted f)
-    × (head-said (c .answer .given .0 .0) ≡ head-of f)
-frame-at c = given-accepted head-of _ (head-said (c .answer .given .0 .0)) (sym (ap option-said (c .answer .given .1)) ∙ told (c .before .before))
-
-within : (c : tie.After-answer Inv-loop μ-loop)
-    → (4 ≤ size (frame-at c .0)) × (c .before .before .before .before .before .before .loop .at + size (frame-at c .0) ≤ length (S (c .before .before .before .before .before .before)))
-within c =
-    let i = c .before .before .before .before .before in
-    turn-within _ _ _ _ _ _ _ (i .before .loop .inv) (i .loop-test .taken) (frame-at c .0) (frame-at c .1)
-
-size-is : (c : tie.After-answer Inv-loop μ-loop) → c .answer .given .0 .0 .size ≡ size (frame-at c .0)
-size-is c = ap (λ (h : Head). h .size) (frame-at c .2)
+μ-loop settings options table₀ at₀ count₀ permission₀ table at count permission = length options - at .0
 
 loop-holds : tie.Need-loop-holds Inv-loop μ-loop
 loop-holds c = turn-starts _ _ _
 
-sub-rest : tie.Need-sub-rest Inv-loop μ-loop
-sub-rest c = omega arith
+-- ---- the option at the place
 
-part-rest-start : tie.Need-part-rest-start Inv-loop μ-loop
-part-rest-start c = omega arith
+-- the bytes from there on
+abbrev rest : tie.At-loop Inv-loop μ-loop → List ℕ
+rest c = drop (c .loop .at .0) (c .before .before .before .args .options .now)
 
-part-rest-end : tie.Need-part-rest-end Inv-loop μ-loop
-part-rest-end c = omega arith
-
-read-option-unscanned-requires : tie.Need-read-option-unscanned-requires Inv-loop μ-loop
-read-option-unscanned-requires c κs = search needs
-
-scanned-requires : tie.Need-scanned-requires Inv-loop μ-loop
-scanned-requires c κs = search needs
-
-enum-known-answer : tie.Need-enum-known-answer Inv-loop μ-loop
-enum-known-answer c = search needs
-
-enum-told : tie.Need-enum-told Inv-loop μ-loop
-enum-told c = search needs
-
-option-refusal-requires : tie.Need-option-refusal-requires Inv-loop μ-loop
-option-refusal-requires c κs = search needs
-
-same-length : tie.Need-same-length Inv-loop μ-loop
-same-length c = long (c .before .before .before .before .before .before)
+told : (c : tie.After-read-option-unscanned Inv-loop μ-loop)
+    → option-said (c .read-option-unscanned .result) ≡ given head-of (one-option unscanned (rest (c .before .before .before .before)))
+told c = c .read-option-unscanned .ensures ∙ ap (λ (b : List ℕ). given head-of (one-option unscanned b)) (c .before .option-at .ensures)
 
 returns : tie.Need-returns Inv-loop μ-loop
 returns c =
-    let r = c .before .before .before in
-    let i = r .before .before .before in
-    let l = i .before .loop in
-    let q = c .before .enum-told .given .0 .0 in
-    let why : c .option-refusal .result ≡ q = c .option-refusal .ensures ∙ ap option-refusal (c .before .enum-told .given .1) in
-    let stops : all-options (S (i .before)) ≡ refused (said q) =
-    turn-stops _ _ _ _ _ _ _ (l .inv) (i .loop-test .taken) (said q) (given-refused head-of _ (said q) (sym (ap option-said (c .before .enum-told .given .1)) ∙ told r)) in
-    (stops ∙ ap (λ (x : _). refused (said x)) (sym why), long i, turn-past _ _ _ _ _ _ _ (l .inv) (omega (arith, sizes i)) (omega (arith, sizes i)))
+    let read = c .before .before .before in
+    let turn = read .before .before in
+    let why = c .before .enum-told .given .1 in
+    turn-stops (turn .before .before .loop .inv) (turn .if1 .taken) (c .refusal .result)
+    (refused-before _ _ (not-found unscanned _ _ (told read) _ why) ∙ ap (λ (r : Refusal). refused (said r)) (sym (c .refusal .ensures ∙ ap option-refusal why)))
 
-slot-of-requires : tie.Need-slot-of-requires Inv-loop μ-loop
-slot-of-requires c κs = omega (arith, sizes (c .before .before .before .before .before .before))
+-- but for its string
+here : (c : tie.After-known-told Inv-loop μ-loop)
+    → Found unscanned (rest (c .before .before .before .before .before .before .before)) (c .before .answer .given .0 .0)
+here c = found unscanned _ _ (told (c .before .before .before)) _ (c .before .answer .given .1)
 
-mul-table : tie.Need-mul-table Inv-loop μ-loop
-mul-table c = omega (arith, sizes (c .before .before .before .before .before .before .before))
-
-slice-write-table : tie.Need-slice-write-table Inv-loop μ-loop
-slice-write-table c = let i = c .before .before .before .before .before .before .before in omega (arith, sizes i, long i)
-
-permission-of-requires : tie.Need-permission-of-requires Inv-loop μ-loop
-permission-of-requires c κs = search needs
-
-first-requires : tie.Need-first-requires Inv-loop μ-loop
-first-requires c κs = search needs
-
-add-count : tie.Need-add-count Inv-loop μ-loop
-add-count c = omega (arith, sizes (c .before .before .before .before .before .before .before .before .before))
-
-add-at : tie.Need-add-at Inv-loop μ-loop
-add-at c = let a = c .before .before .before .before .before in omega (arith, within a, size-is a, sizes (a .before .before .before .before .before))
-
-loop-less : tie.Need-loop-less Inv-loop μ-loop
-loop-less c = let a = c .before .before .before .before .before in omega (arith, within a, size-is a)
-
-loop-again : tie.Need-loop-again Inv-loop μ-loop
-loop-again c =
-    let first = c .before in
-    let permission = first .before in
-    let slot = permission .before in
-    let a = slot .before .before in
-    let i = a .before .before .before .before .before in
-    let (f, e, h) = frame-at a in
-    turn-next _ _ _ _ _ _ _ (i .before .loop .inv) (i .loop-test .taken) f e (omega (arith, sizes i)) _ (slot .slot-of .ensures) _ (size-is a) _
-    (first .first .ensures
-    ∙ ap (λ (w : Verdict). permission-said (i .before .loop .permission) >> w) (permission .permission-of .ensures ∙ ap (permit-told (G (i .before))) h ∙ sym (told-permits (G (i .before)) f)))
-
-same-length-2 : tie.Need-same-length-2 Inv-loop μ-loop
-same-length-2 c = turn-length _ _ _ _ _ _ _ (c .before .loop .inv) (omega (arith, c .before .loop .inv .few, c .before .loop .inv .within, c .before .before .before .before .pre))
+string-told : (c : tie.After-scan Inv-loop μ-loop)
+    → verdict-said (c .scan .result)
+    ≡ judge-text scanned (kind-of (c .before .before .answer .given .0 .0 .code)) (behind-type (rest (c .before .before .before .before .before .before .before .before)) (c .before .before .answer .given .0 .0 .size))
+string-told c =
+    let head = c .before .before .answer .given .0 .0 in
+    c .scan .ensures ∙ ap (λ (b : List ℕ). judge-text scanned (kind-of (head .code)) (behind-type b (head .size))) (c .before .before .before .before .before .option-at .ensures)
 
 returns-2 : tie.Need-returns-2 Inv-loop μ-loop
 returns-2 c =
-    let t = c .before .loop .inv in
-    (t .done, turn-ends _ _ _ _ _ _ _ t (c .loop-test .left), t .count, t .permits, t .table)
+    let scan = c .before .before .before in
+    let turn = scan .before .before .before .before .before .before in
+    let why = c .before .enum-told3 .given .1 in
+    turn-stops (turn .before .before .loop .inv) (turn .if1 .taken) (c .refusal2 .result)
+    (string-refused _ _ (here (scan .before)) _ (string-told scan) _ why ∙ ap (λ (r : Refusal). refused (said r)) (sym (c .refusal2 .ensures ∙ ap verdict-refusal why)))
+
+-- with its string
+whole : (c : tie.After-enum-told2 Inv-loop μ-loop)
+    → Found scanned (rest (c .before .before .before .before .before .before .before .before .before .before)) (c .before .before .before .before .answer .given .0 .0)
+whole c = let scan = c .before .before in string-passed _ _ (here (scan .before)) _ (string-told scan) (c .enum-told2 .given .1)
+
+add-t11-2 : tie.Need-add-t11-2 Inv-loop μ-loop
+add-t11-2 c =
+    let read = c .before .before .before .before .before .before .before .before .before in
+    let turn = read .before .before .before .before .before .before .before .before in
+    omega (arith, turn-within (turn .before .before .loop .inv) (turn .if1 .taken) _ (whole read))
+
+loop-less : tie.Need-loop-less Inv-loop μ-loop
+loop-less c = let t = whole (c .before .before .before .before .before .before .before .before .before) in omega arith
+
+loop-again : tie.Need-loop-again Inv-loop μ-loop
+loop-again c =
+    let first = c .before .before .before in
+    let permission = first .before in
+    let slot = permission .before .before .before in
+    let read = slot .before .before in
+    let turn = read .before .before .before .before .before .before .before .before in
+    turn-goes (turn .before .before .loop .inv) (turn .if1 .taken) _ (whole read) (omega arith) (omega arith) _ (slot .write-slot .ensures) _
+    (first .first .ensures ∙ ap (λ (w : Verdict). verdict-said (turn .before .before .loop .permission) >> w) (permission .permission-of .ensures))
+
+returns-3 : tie.Need-returns-3 Inv-loop μ-loop
+returns-3 c =
+    let turn = c .before .before .before in
+    turn-refuses (turn .before .before .loop .inv) (turn .if1 .left) (c .refusal3 .result)
+    (ap verdict-said (c .before .enum-told5 .given .1) ∙ ap (λ (r : Refusal). refused (said r)) (sym (c .refusal3 .ensures ∙ ap verdict-refusal (c .before .enum-told5 .given .1))))
+
+returns-4 : tie.Need-returns-4 Inv-loop μ-loop
+returns-4 c =
+    let turn = c .before .before in
+    turn-ends (turn .before .before .loop .inv) (turn .if1 .left) (ap verdict-said (c .enum-told4 .given .1))
 
 pub sweep-spec : {M : Type 1} → statement M
 sweep-spec =
@@ -167,24 +108,30 @@ sweep-spec =
     Inv-loop
     μ-loop
     loop-holds
-    sub-rest
-    part-rest-start
-    part-rest-end
-    read-option-unscanned-requires
-    scanned-requires
-    enum-known-answer
-    enum-told
-    option-refusal-requires
-    same-length
+    (λ c κs. search needs)
+    (λ c κs. search needs)
+    (λ c. search needs)
+    (λ c. search needs)
+    (λ c κs. search needs)
+    (λ c. omega arith)
     returns
-    slot-of-requires
-    mul-table
-    slice-write-table
-    permission-of-requires
-    first-requires
-    add-count
-    add-at
+    (λ c κs. search needs)
+    (λ c. search needs)
+    (λ c. search needs)
+    (λ c κs. search needs)
+    (λ c. omega arith)
+    returns-2
+    (λ c κs. (omega arith, omega arith))
+    (λ c κs. search needs)
+    (λ c κs. search needs)
+    (λ c. omega arith)
+    add-t11-2
     loop-less
     loop-again
-    same-length-2
-    returns-2)
+    (λ c. search needs)
+    (λ c. search needs)
+    (λ c κs. search needs)
+    (λ c. omega arith)
+    returns-3
+    (λ c. omega arith)
+    returns-4)
