@@ -41,6 +41,12 @@ module _ {A B : Type 0} where
   unfolding _>>=_
   bind-pass m f x e = rw e
 
+  -- a part that is refused, where nothing is refused behind it
+  pub bind-refused : (m : Answer A) (f : A → B) (r : Refusal) → (m >>= λ a. accepted (f a)) ≡ refused r → m ≡ refused r
+  unfolding _>>=_
+  bind-refused (accepted x) f r e = not-refused r (f x) (sym e)
+  bind-refused (refused q) f r e = ap refused (refused-inj {A = B} q r e)
+
   pub given-accepted : (f : A → B) (m : Answer A) (y : B) → given f m ≡ accepted y → (x : A) × (m ≡ accepted x) × (f x ≡ y)
   unfolding given
   given-accepted f (accepted x) y e = (x, refl, accepted-inj (f x) y e)
@@ -82,11 +88,12 @@ module _ {A : Type 0} where
 pub refuse-pass : (r : Refusal) (b : Bool) → ((refuse r when not b else pass) ≡ pass) ↔ (b ≡ true)
 refuse-pass r b = ((λ e. test-accepted r b pass tt .0 e .0), (λ e. test-accepted r b pass tt .1 (e, refl)))
 
--- two facts of each element, together and apart
-module _ {A : Type 0} (P Q R : A → Type 0) (both : (x : A) → P x ↔ (Q x × R x)) where
-  pub all-both : (xs : List A) → All P xs ↔ (All Q xs × All R xs)
-  all-both [] = ((λ h. (tt, tt)), (λ h. tt))
-  all-both (x ∷ xs) = (
-    (λ h. let a = both x .0 (h .0) in let b = all-both xs .0 (h .1) in ((a .0, b .0), (a .1, b .1))),
-    (λ h. (both x .1 (h .0 .0, h .1 .0), all-both xs .1 (h .0 .1, h .1 .1))),
-  )
+-- what each element has
+module _ {A : Type 0} (P Q : A → Type 0) where
+  pub all-map : ((x : A) → P x → Q x) → (xs : List A) → All P xs → All Q xs
+  all-map f [] e = tt
+  all-map f (x ∷ xs) e = (f x (e .0), all-map f xs (e .1))
+
+  pub all-both : (xs : List A) → All P xs → All Q xs → All (λ x. P x × Q x) xs
+  all-both [] e f = tt
+  all-both (x ∷ xs) e f = ((e .0, f .0), all-both xs (e .1) (f .1))

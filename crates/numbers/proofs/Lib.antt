@@ -1,2 +1,4 @@
+pub mod TestLaws
 pub mod AnswerLaws
 pub mod ByteLaws
+pub mod RuleLaws

@@ -1,8 +1,9 @@
 -- What a reading answers: what it read, or the first refusal; and the words in which readings are written. Assumes nothing: these are definitions.
 use Prim.Native.Nat.{ℕ}
+use mathlib.Core.Path.{_≡_}
 use mathlib.Core.Bool.{Bool, true, false}
 use mathlib.Core.List.{List, [], _∷_}
-use Rattle.numbers.specs.Refusals.{Refusal}
+use Rattle.numbers.specs.Refusals.{Refusal, refusal}
 
 pub data Answer (A : Type 0) : Type 0 where
   accepted : A → Answer A
@@ -53,3 +54,8 @@ part (refused r) = []
 -- only whether it was accepted, or why not
 abbrev pub verdict : {A : Type 0} → Answer A → Verdict
 verdict = given (λ a. tt)
+
+infix 3 _gives_with_
+-- the refusal of this number with these values
+abbrev pub _gives_with_ : {A : Type 0} → Answer A → ℕ → List ℕ → Type 0
+_gives_with_ a n vs = a ≡ refused (refusal n vs)

@@ -1,3 +1,4 @@
 pub mod Bytes
 pub mod Refusals
 pub mod Answers
+pub mod Rules
