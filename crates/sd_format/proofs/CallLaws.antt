@@ -1,11 +1,10 @@
 -- What the calls around a payload accept: a table that is lent, the index alone, the message with its header. Assumes nothing.
 use mathlib.Core.Path.{_≡_, refl, sym, ap, _∙_, subst}
-use mathlib.Core.Bool.{Bool, true, false, not}
-use mathlib.Core.Logic.{_↔_}
-use mathlib.Core.List.{List, [], _∷_, _++_, append-assoc, map}
-use Prim.Native.Nat.{ℕ, _+_, _*_, _/_, _%_, _-_, _≤_, _<_}
+use mathlib.Core.Bool.{true}
+use mathlib.Core.List.{List, [], _∷_, _++_, map}
+use Prim.Native.Nat.{ℕ, _+_, _*_, _/_, _%_, _≤_}
 use native.Mathlib.Omega.{arith}
-use lib.ListN.{length, take, drop, getD, length-append, take-append-drop}
+use lib.ListN.{length, take, drop, getD, take-append-drop}
 use lib.Seq.{drop-at}
 use borrow.Author.Tests.{ltb-false, eqb-true, eqb-false, lt-ltb, le-ltb, ne-eqb}
 use Rattle.numbers.specs.Answers.{Answer, accepted, refused, pass, _>>=_, _>>_, refuse_when_else_, each, given, All}
@@ -17,11 +16,13 @@ use Rattle.sd_format.specs.Options.{Opt}
 use Rattle.sd_format.specs.Kinds.{Kind, configuration, load-balancing, address, unknown, kind-of}
 use Rattle.sd_format.specs.Frames.{Frame, permitted, permit, all-options, read-options, slots, lent, read-index}
 use Rattle.sd_format.specs.Fields.{fields}
-use Rattle.sd_format.specs.Layout.{OptionFits, lay-options, wire, Payload, lay, Fits, Header, lay-header}
-use Rattle.sd_format.specs.Payload.{Reading, read-payload, shown, handed-out, header, read-message}
+use Rattle.sd_format.specs.Layout.{OptionFits, lay-options, wire, lay, Header, lay-header}
+use Rattle.sd_format.specs.Payload.{options-part, read-payload, frames-of, shown, handed-out, header, read-message}
 use Rattle.sd_format.specs.Demand3.{LentExactly, IndexExact, MessageExact}
-use Rattle.sd_format.proofs.OptionLaws.{read-parts, permits-all, options-lay, options-read, options-own}
-use Rattle.sd_format.proofs.PayloadLaws.{lay-handed}
+use Rattle.sd_format.specs.Theorems.{TablesLeft}
+use Rattle.sd_format.proofs.TableLaws.{Few, table-law}
+use Rattle.sd_format.proofs.OptionLaws.{read-parts, permits-all, few-slots-used, options-lay, options-read, options-own}
+use Rattle.sd_format.proofs.PayloadLaws.{lay-handed, read-says, options-part-length}
 use Rattle.sd_format.proofs.Demand3.{demand3}
 
 -- ---- the lent table
@@ -33,6 +34,32 @@ lent-exactly tab a =
       short = λ h. when-hit _ _ a (lt-ltb (length tab) 347 h);
       enough = λ h. when-pass _ _ a (le-ltb (length tab) 347 h);
     }
+
+-- no call reads more options than there are slots
+
+payload-few : (g : Settings) (s : List ℕ) → Few (frames-of (read-payload g s))
+payload-few g s fs e =
+    let (r, read, same) = given-accepted _ _ fs e in
+    let says = read-says g s r read in
+    let short : length (options-part s) ≤ 1388 = rw (options-part-length s (says .sizes-fit)) (says .sizes-fit .short-options) in
+    rw (← same) (few-slots-used (options-part s) (r .frames) (read-parts g _ (r .frames) .0 (says .frames-read) .0) short)
+
+message-few : (g : Settings) (s : List ℕ) → Few (frames-of (read-message g s))
+unfolding read-message given
+message-few g s fs e =
+    let (r, read, same) = given-accepted _ _ fs e in
+    payload-few g (drop 16 s) fs (ap frames-of (then-accepted _ _ _ read .1) ∙ ap accepted same)
+
+index-few : (s : List ℕ) → Few (read-index s)
+unfolding read-index
+index-few s fs e = let (short, read) = when-accepted _ _ _ _ e in few-slots-used s fs read (ltb-false 1388 (length s) short)
+
+pub tables-left : TablesLeft
+tables-left = record {
+  payload = λ g s tab. table-law tab _ (payload-few g s);
+  message = λ g s tab. table-law tab _ (message-few g s);
+  index = λ s tab. table-law tab _ (index-few s);
+}
 
 -- ---- the index alone
 

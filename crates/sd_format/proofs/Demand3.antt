@@ -1,21 +1,21 @@
 -- Demand 3, clause by clause, and what the cursors hand out. Assumes nothing.
-use mathlib.Core.Path.{_≡_, refl, sym, ap, _∙_, subst}
+use mathlib.Core.Path.{_≡_, sym, ap, _∙_, subst}
 use mathlib.Core.Logic.{_↔_}
 use mathlib.Core.List.{List, map}
 use Prim.Native.Nat.{ℕ, _≤_}
 use native.Mathlib.Omega.{arith}
-use lib.ListN.{length, take, drop, length-map}
+use lib.ListN.{length, length-map}
 use Rattle.numbers.specs.Answers.{Answer, accepted, given}
 use Rattle.numbers.specs.Bytes.{Bytes}
 use Rattle.numbers.proofs.AnswerLaws.{accepted-inj, given-accepted}
 use Rattle.sd_format.specs.Settings.{Settings}
 use Rattle.sd_format.specs.Sequences.{HandsOut, behind, counted}
 use Rattle.sd_format.specs.Kinds.{scanned}
-use Rattle.sd_format.specs.Frames.{Frame, size, read-option, all-options, slots, table-after, look-up, next-option, next-of-run, along}
+use Rattle.sd_format.specs.Frames.{Frame, size, read-option, all-options, slots, table-after, look-up, next-option}
 use Rattle.sd_format.specs.Fields.{fields}
-use Rattle.sd_format.specs.Entries.{Entry, sixteen, read-entry, placed-entry, read-entries, next-entry}
-use Rattle.sd_format.specs.Layout.{Payload, lay, Fits, wire}
-use Rattle.sd_format.specs.Payload.{entries-length, options-length, entries-part, options-part, Reading, read-payload, frames-of, shown, handed-out}
+use Rattle.sd_format.specs.Entries.{sixteen, read-entry, placed-entry, read-entries, next-entry}
+use Rattle.sd_format.specs.Layout.{Payload, wire}
+use Rattle.sd_format.specs.Payload.{entries-part, options-part, Reading, read-payload, frames-of, shown, handed-out}
 use Rattle.sd_format.specs.Demand3.{LaidOut, table-left, Demand3, CursorsAgree}
 use Rattle.sd_format.proofs.SequenceLaws.{counted-map, cursor-hands}
 use Rattle.sd_format.proofs.FrameLaws.{option-within}
@@ -41,7 +41,7 @@ module _ (g : Settings) (s : List ℕ) (b : Bytes s) where
     all-read = read-parts g _ (r .frames) .0 (says .frames-read) .0
 
     short : length (options-part s) ≤ 1388
-    short = rw (options-part-length s b (says .sizes-fit)) (says .sizes-fit .short-options)
+    short = rw (options-part-length s (says .sizes-fit)) (says .sizes-fit .short-options)
 
     wires : map wire (map fields (r .frames)) ≡ r .frames
     wires = options-read g (options-part s) (bytes-options s b) (r .frames) (says .frames-read) .2

@@ -1,21 +1,22 @@
 -- One entry: what is read beside `n` options is exactly what is laid out and fits them. Assumes nothing.
-use mathlib.Core.Path.{_≡_, refl, sym, ap, ap₂, _∙_, subst}
-use mathlib.Core.Bool.{Bool, true, false, not, _||_, cond, false≢true}
-use mathlib.Core.Logic.{_↔_, _⊎_, inl, inr, ⊎-elim}
+use mathlib.Core.Path.{_≡_, refl, sym, ap, ap₂, _∙_}
+use mathlib.Core.Bool.{Bool, true, false, cond, or-true}
+use mathlib.Core.Logic.{_↔_, _≢_, inl, inr, ⊎-elim}
 use mathlib.Core.List.{List, [], _∷_, _++_}
 use Prim.Native.Nat.{ℕ, _+_, _*_, _/_, _%_, _≤_, _<_}
 use native.Mathlib.Omega.{arith}
 use lib.ListN.{length, drop, getD, length-append, take-append-drop, List·getD-append}
-use lib.Dec.{leb, eqb}
+use lib.Dec.{eqb}
 use borrow.Author.Tests.{ltb-false, leb-true, eqb-true, eqb-false, le-ltb, le-leb, eq-eqb, ne-eqb}
-use Rattle.numbers.specs.Refusals.{Refusal, run-out-of-bounds}
-use Rattle.numbers.specs.Answers.{Answer, accepted, refused, Verdict, pass, refuse_when_else_, _>>_}
+use Rattle.numbers.specs.Refusals.{unknown-entry}
+use Rattle.numbers.specs.Answers.{Answer, accepted, refused, Verdict, pass}
 use Rattle.numbers.specs.Bytes.{Bytes, be16, be24, be32, at16, at24, at32}
-use Rattle.numbers.proofs.AnswerLaws.{when-pass, when-accepted, not-refused, refused-inj, accepted-inj, bind-pass, bind-accepted, then-pass, then-accepted, test-accepted, refuse-pass}
+use Rattle.numbers.proofs.AnswerLaws.{when-pass, when-accepted, not-refused, accepted-inj, bind-pass, bind-accepted, then-pass, then-accepted, refuse-pass}
+use Rattle.numbers.proofs.TestLaws.{or-cases}
 use Rattle.numbers.proofs.ByteLaws.{be16-at, be24-at, be32-at, tab, take-tab, at16-be, at24-be, at32-be}
 use Rattle.sd_format.specs.Options.{has}
 use Rattle.sd_format.specs.Entries.{Head, Group, Entry, find, offer, subscribe, subscribe-ack, head-of, head, group, minor, by-type, read-entry, inside, judge-run, judge-runs, placed-entry}
-use Rattle.sd_format.specs.Demand3.{RunsRefused, first-run, second-run}
+use Rattle.sd_format.specs.Rules.{EntryType}
 use Rattle.sd_format.specs.Layout.{bit, lay-head, lay-group, lay-entry, RunFits, GroupFits, TailFits, EntryFits}
 
 pub length-entry : (e : Entry) → length (lay-entry e) ≡ 16
@@ -29,15 +30,10 @@ length-entry (subscribe-ack h g) = refl
 
 pub run-inside : (n start count : ℕ) → (inside n start count ≡ true) ↔ RunFits n start count
 unfolding inside
-run-inside n start count = (split (eqb count 0) refl, ⊎-elim (λ z. rw (eq-eqb count 0 z)) (λ h. either (eqb count 0) (le-leb (start + count) n h)))
-  where
-    split : (b : Bool) → eqb count 0 ≡ b → (b || leb (start + count) n) ≡ true → RunFits n start count
-    split true z t = inl (eqb-true count 0 z)
-    split false z t = inr (leb-true (start + count) n t)
-
-    either : (b : Bool) → leb (start + count) n ≡ true → (b || leb (start + count) n) ≡ true
-    either true t = refl
-    either false t = t
+run-inside n start count = (
+  (λ t. ⊎-elim (λ z. inl (eqb-true count 0 z)) (λ z. inr (leb-true (start + count) n z)) (or-cases (eqb count 0) _ t)),
+  ⊎-elim (λ z. rw (eq-eqb count 0 z)) (λ h. rw (le-leb (start + count) n h) (or-true (eqb count 0))),
+)
 
 pub run-fits : (run n start count : ℕ) → (judge-run run n start count ≡ pass) ↔ RunFits n start count
 unfolding judge-run
@@ -57,21 +53,6 @@ runs-fit n h =
       (λ p. let w = then-accepted _ _ _ p in (one .0 (w .0), two .0 (w .1))),
       (λ f. then-pass _ _ (one .1 (f .0)) ∙ two .1 (f .1)),
     )
-
--- which run a refusal names
-pub runs-refused : (n : ℕ) (h : Head) (r : Refusal) → runs-of n h ≡ refused r → RunsRefused n h r
-unfolding judge-runs judge-run _>>_ refuse_when_else_
-runs-refused n h r e = go (inside n (h .start1) (h .count1)) (inside n (h .start2) (h .count2)) refl refl e
-  where
-    named : (q : Refusal) → RunsRefused n h q → _≡_ {A = Verdict} (refused q) (refused r) → RunsRefused n h r
-    named q w same = subst (RunsRefused n h) (refused-inj q r same) w
-
-    go : (one two : Bool) → inside n (h .start1) (h .count1) ≡ one → inside n (h .start2) (h .count2) ≡ two
-        → ((refuse run-out-of-bounds 1 (h .start1) (h .count1) n when not one else pass)
-        >> (refuse run-out-of-bounds 2 (h .start2) (h .count2) n when not two else pass)) ≡ refused r → RunsRefused n h r
-    go false two p q w = named _ (first-run (λ fits. false≢true (sym p ∙ run-inside n _ _ .1 fits))) w
-    go true false p q w = named _ (second-run (run-inside n _ _ .0 p) (λ fits. false≢true (sym q ∙ run-inside n _ _ .1 fits))) w
-    go true true p q w = not-refused r tt (sym w)
 
 -- ---- reading what was laid out: the head, and either tail, behind any type
 
@@ -174,31 +155,45 @@ record Taken (type : ℕ) (s : List ℕ) (e : Entry) : Type 0 where
   headed : head-of e ≡ head s
   tail : TailFits e
 
--- the first of two answers under a test, or the second
-either-way : {A : Type 0} (b : Bool) (x y : Answer A) (a : A) → cond b x y ≡ accepted a → ((b ≡ true) × (x ≡ accepted a)) ⊎ (y ≡ accepted a)
-either-way true x y a e = inl (refl, e)
-either-way false x y a e = inr e
+-- ---- by its type
+
+module _ (type : ℕ) (s : List ℕ) (P : Answer Entry → Type 0) where
+  type-is : (code : ℕ) (x y : Answer Entry) → (type ≡ code → P x) → (type ≢ code → P y) → P (cond (eqb type code) x y)
+  type-is code x y same other = go (eqb type code) refl
+    where
+      go : (t : Bool) → eqb type code ≡ t → P (cond t x y)
+      go true e = same (eqb-true type code e)
+      go false e = other (eqb-false type code e)
+
+  -- what holds of each of the four, and of a refusal, holds of the answer
+  pub entry-cases : (type ≡ 0x00 → P (accepted (find (head s) (minor s)))) → (type ≡ 0x01 → P (accepted (offer (head s) (minor s))))
+      → (type ≡ 0x06 → P (accepted (subscribe (head s) (group s)))) → (type ≡ 0x07 → P (accepted (subscribe-ack (head s) (group s))))
+      → (¬ EntryType type → P (refused (unknown-entry type))) → P (by-type type s)
+  unfolding by-type
+  entry-cases finds offers subscribes acks unknown =
+      type-is 0x00 _ _ finds
+      (λ n0. type-is 0x01 _ _ offers
+      (λ n1. type-is 0x06 _ _ subscribes
+      (λ n6. type-is 0x07 _ _ acks
+      (λ n7. unknown (⊎-elim n0 (⊎-elim n1 (⊎-elim n6 n7)))))))
 
 module _ (type : ℕ) (s : List ℕ) (e : Entry) (b : Bytes s) where
   -- `x`, of type `code`, with its last four bytes `t`
   hit : (code : ℕ) (x : Entry) (t : List ℕ) → t ≡ tab 4 (λ i. getD s (12 + i) 0) → lay-entry x ≡ code ∷ (lay-head (head s) ++ t) → head-of x ≡ head s → TailFits x
-      → (eqb type code ≡ true) × (accepted x ≡ accepted e) → Taken type s e
-  hit code x t last laid headed tail w =
-      let same : type ≡ code = eqb-true type code (w .0) in
-      let this : x ≡ e = accepted-inj x e (w .1) in
+      → type ≡ code → accepted x ≡ accepted e → Taken type s e
+  hit code x t last laid headed tail same is =
+      let this : x ≡ e = accepted-inj x e is in
       rw (same, ← this) (record { laid = laid ∙ ap₂ (λ y z. code ∷ (y ++ z)) (head-read s b) last; headed = headed; tail = tail })
 
   type-read : by-type type s ≡ accepted e → Taken type s e
-  unfolding by-type lay-entry
-  type-read p =
-      ⊎-elim (hit 0x00 (find (head s) (minor s)) _ (minor-read s b) refl refl tt)
-      (λ p1. ⊎-elim (hit 0x01 (offer (head s) (minor s)) _ (minor-read s b) refl refl tt)
-      (λ p2. ⊎-elim (hit 0x06 (subscribe (head s) (group s)) _ (group-read s b) refl refl (group-small s))
-      (λ p3. ⊎-elim (hit 0x07 (subscribe-ack (head s) (group s)) _ (group-read s b) refl refl (group-small s)) (λ p4. not-refused _ e p4)
-      (either-way _ _ _ e p3))
-      (either-way _ _ _ e p2))
-      (either-way _ _ _ e p1))
-      (either-way _ _ _ e p)
+  unfolding lay-entry
+  type-read =
+      entry-cases type s (λ a. a ≡ accepted e → Taken type s e)
+      (hit 0x00 _ _ (minor-read s b) refl refl tt)
+      (hit 0x01 _ _ (minor-read s b) refl refl tt)
+      (hit 0x06 _ _ (group-read s b) refl refl (group-small s))
+      (hit 0x07 _ _ (group-read s b) refl refl (group-small s))
+      (λ n p. not-refused _ e p)
 
 -- ---- what an acceptance says
 

@@ -1,27 +1,28 @@
 -- Options by their kinds' own fields against options as type and bytes: each fits exactly where the other is read, and each gives the other
 -- back. Assumes nothing.
 use mathlib.Core.Path.{_≡_, refl, sym, ap, ap₂, _∙_, subst}
-use mathlib.Core.Bool.{Bool, true, false, _||_}
-use mathlib.Core.Logic.{_↔_, _⊎_, inl, inr, ⊎-elim}
+use mathlib.Core.Bool.{true, _||_, or-true}
+use mathlib.Core.Logic.{_↔_, inl, inr, ⊎-elim}
 use mathlib.Core.List.{List, [], _∷_, _++_}
-use Prim.Native.Nat.{ℕ, zero, suc, _+_, _*_, _/_, _%_, _-_, _≤_, _<_}
+use Prim.Native.Nat.{ℕ, suc, _+_, _*_, _/_, _%_, _≤_, _<_}
 use native.Mathlib.Numerals.{one-add}
 use native.Mathlib.Omega.{arith}
 use lib.ListN.{length, take, drop, getD, length-append, length-drop, take-append-drop}
 use lib.Seq.{take-at, take-all, length-take-le, getD-append-add, getD-drop, drop-drop}
 use lib.Dec.{eqb}
 use borrow.Author.Tests.{eqb-true, eq-eqb}
-use Rattle.numbers.specs.Answers.{Answer, accepted, refused, Verdict, pass, _>>_, refuse_when_else_, given, verdict, All}
+use Rattle.numbers.specs.Answers.{Answer, accepted, refused, pass, _>>_, refuse_when_else_, given, verdict}
 use Rattle.numbers.specs.Bytes.{Bytes, be16, at16}
-use Rattle.numbers.proofs.AnswerLaws.{not-refused, accepted-inj, then-accepted, then-pass, refuse-pass}
-use Rattle.numbers.proofs.ByteLaws.{be16-at, at16-be, tab, take-tab, bytes-drop}
+use Rattle.numbers.proofs.AnswerLaws.{not-refused, then-accepted, then-pass, refuse-pass}
+use Rattle.numbers.proofs.TestLaws.{or-cases}
+use Rattle.numbers.proofs.ByteLaws.{be16-at, tab, take-tab}
 use Rattle.sd_format.specs.Settings.{Settings}
 use Rattle.sd_format.specs.Options.{Family, ipv4, ipv6, Role, First, Opt, configuring, balancing, addressed, unrecognised, has}
 use Rattle.sd_format.specs.Strings.{read-string}
-use Rattle.sd_format.specs.Kinds.{Row, row, Kind, configuration, load-balancing, address, unknown, Length, exactly, one-or-more, row-of, kind-of, judge-length, judge-text, judge-kind, scanned}
+use Rattle.sd_format.specs.Kinds.{Row, configuration, load-balancing, address, unknown, exactly, row-of, kind-of, judge-length, judge-text, judge-kind, scanned}
 use Rattle.sd_format.specs.Frames.{Frame, permitted}
-use Rattle.sd_format.specs.Fields.{first, string, priority, weight, width, address-bytes, reserved, protocol, port, items-of, fields-of, fields}
-use Rattle.sd_format.specs.Layout.{bit, lay-items, GoodItem, lay-first, lay-type, lay-length, address-length, lay-option, wire, Unknown, OptionFits}
+use Rattle.sd_format.specs.Fields.{first, string, width, address-bytes, reserved, protocol, port, items-of, fields-of, fields}
+use Rattle.sd_format.specs.Layout.{lay-items, lay-first, lay-type, lay-length, address-length, lay-option, wire, Unknown, OptionFits}
 use Rattle.sd_format.proofs.BitLaws.{first-again, first-back}
 use Rattle.sd_format.proofs.StringLaws.{strings-exact}
 use Rattle.sd_format.proofs.FrameLaws.{lay-frame, Sound}
@@ -83,10 +84,6 @@ getD-behind x a t k i e =
 same-length : (n m : ℕ) (t : List ℕ) → n ≡ m → be16 n ++ t ≡ be16 m ++ t
 same-length n m t e = ap (λ (k : ℕ). be16 k ++ t) e
 
-or-true : (a b : Bool) → (b ≡ true) ⊎ (a ≡ true) → (a || b) ≡ true
-or-true true b h = refl
-or-true false b h = ⊎-elim (λ e. e) (λ e. let z : _≡_ {A = ℕ} 0 1 = cc in absurd (omega arith)) h
-
 -- ---- the address and what stands behind it, once over both widths
 
 widths : (family : Family) → address-length family ≡ width family
@@ -146,7 +143,7 @@ wired g (unrecognised type b rest) h =
     wired-by g (unrecognised type b rest) _ (row-unknown type (h .1)) (omega arith) refl
     (same-length _ _ (type ∷ lay-first b ∷ rest) (sym (one-add (length rest))))
     (ap (λ (c : First). unrecognised type c rest) (first-back b (h .0)))
-    (or-true _ _ (⊎-elim (λ d. inl (ap (λ (c : First). c .discardable) (first-back b (h .0)) ∙ d)) (λ d. inr d) (h .2)))
+    (⊎-elim (λ d. ap (_||_ (g .discard)) (ap (λ (c : First). c .discardable) (first-back b (h .0)) ∙ d) ∙ or-true (g .discard)) (λ d. rw d) (h .2))
 
 -- ---- from the bytes to the fields
 
@@ -160,10 +157,6 @@ whole-body (x ∷ rest) b h = ap (λ (y : ℕ). y ∷ rest) (first-again x (b 0)
 
 few-bits : (body : List ℕ) → first body .others < 128
 few-bits body = omega arith
-
-or-cases : (a b : Bool) → (a || b) ≡ true → (b ≡ true) ⊎ (a ≡ true)
-or-cases true b h = inr refl
-or-cases false b h = inl h
 
 -- what stands behind the first byte: an address of `w` bytes, and four bytes
 address-again : (w : ℕ) (body : List ℕ) → Bytes body → length body ≡ 5 + w
@@ -214,7 +207,7 @@ module _ (g : Settings) (body : List ℕ) (b : Bytes body) (some : 1 ≤ length 
   unfolding lay-option be16 fields-of
   back-unknown type u may =
       let whole = whole-body body b some in
-      ((few-bits body, u, or-cases _ _ may), (λ i. record { type = type; body = whole i }))
+      ((few-bits body, u, ⊎-elim (λ d. inr d) (λ d. inl d) (or-cases _ _ may)), (λ i. record { type = type; body = whole i }))
 
   -- what the judgements say under a type
   abbrev Said : ℕ → Row → Type 0

@@ -1,12 +1,12 @@
 -- One option as its type and the bytes after it: read from its layout, and laid out again. Assumes nothing.
-use mathlib.Core.Path.{_≡_, refl, sym, ap, _∙_, subst}
+use mathlib.Core.Path.{_≡_, refl, _∙_, subst}
 use mathlib.Core.List.{List, [], _∷_, _++_}
-use Prim.Native.Nat.{ℕ, suc, _+_, _*_, _/_, _%_, _-_, _≤_, _<_}
+use Prim.Native.Nat.{ℕ, suc, _+_, _*_, _/_, _%_, _≤_}
 use native.Mathlib.Omega.{arith}
 use lib.ListN.{length, take, drop, getD, length-append, length-drop, take-append-drop}
 use lib.Seq.{take-append-seam, length-take-le}
 use borrow.Author.Tests.{ltb-false, eqb-false, le-ltb, ne-eqb}
-use Rattle.numbers.specs.Answers.{Answer, accepted, Verdict, pass, _>>=_, _>>_, refuse_when_else_}
+use Rattle.numbers.specs.Answers.{accepted, Verdict, pass, refuse_when_else_}
 use Rattle.numbers.specs.Bytes.{Bytes, be16, at16}
 use Rattle.numbers.proofs.AnswerLaws.{when-accepted, accepted-inj, bind-accepted, bind-pass, then-accepted, then-pass}
 use Rattle.sd_format.specs.Kinds.{judge-kind}
@@ -75,15 +75,20 @@ framed s n e pos long =
       again = λ b. rw full (lay-again s n b e long);
     }
 
-pub frame-says : (s : List ℕ) (f : Frame) → frame s ≡ accepted f → Framed s f
+-- an accepted frame stands within the bytes, its body as long as its length says
+pub frame-is : (s : List ℕ) (f : Frame) → frame s ≡ accepted f
+    → (1 ≤ at16 s 0) × (3 + at16 s 0 ≤ length s) × (record { type = getD s 2 0; body = take (at16 s 0) (drop 3 s) } ≡ f)
 unfolding frame
-frame-says s f e =
+frame-is s f e =
     let w1 = when-accepted _ _ _ _ e in
     let w2 = when-accepted _ _ _ _ (w1 .1) in
     let w3 = when-accepted _ _ _ _ (w2 .1) in
-    let long : 3 + at16 s 0 ≤ length s = ltb-false _ _ (w3 .0) in
-    let pos : 1 ≤ at16 s 0 = omega (arith, eqb-false (at16 s 0) 0 (w2 .0)) in
-    subst (Framed s) (accepted-inj _ f (w3 .1)) (framed s (at16 s 0) refl pos long)
+    (omega (arith, eqb-false (at16 s 0) 0 (w2 .0)), ltb-false _ _ (w3 .0), accepted-inj _ f (w3 .1))
+
+pub frame-says : (s : List ℕ) (f : Frame) → frame s ≡ accepted f → Framed s f
+frame-says s f e =
+    let (pos, long, same) = frame-is s f e in
+    subst (Framed s) same (framed s (at16 s 0) refl pos long)
 
 -- ---- with its kind
 

@@ -1,12 +1,11 @@
 -- The table of kinds against the layout's own type codes and lengths. Assumes nothing.
-use mathlib.Core.Path.{_≡_, refl, sym, ap, _∙_}
+use mathlib.Core.Path.{_≡_, refl}
 use mathlib.Core.Bool.{Bool, true, false}
-use mathlib.Core.List.{List, [], _∷_}
 use Prim.Native.Nat.{ℕ}
 use lib.Dec.{eqb}
 use borrow.Author.Tests.{ne-eqb, eqb-true, eqb-false}
 use Rattle.sd_format.specs.Options.{Family, ipv4, ipv6, Role, endpoint, multicast, sd-endpoint}
-use Rattle.sd_format.specs.Kinds.{Row, row, configuration, load-balancing, address, unknown, exactly, one-or-more, kinds, row-in, row-of}
+use Rattle.sd_format.specs.Kinds.{row, configuration, load-balancing, address, unknown, exactly, one-or-more, kinds, row-in, row-of}
 use Rattle.sd_format.specs.Layout.{lay-type, lay-length, Unknown}
 
 -- ---- the rows, by what the layout writes

@@ -1,5 +1,6 @@
 pub mod BitLaws
 pub mod SequenceLaws
+pub mod TableLaws
 pub mod StringLaws
 pub mod FrameLaws
 pub mod KindLaws
@@ -10,3 +11,9 @@ pub mod PayloadLaws
 pub mod Demand3
 pub mod Cases
 pub mod CallLaws
+pub mod Order
+pub mod Bounds
+pub mod Places
+pub mod StringRules
+pub mod RuleLaws
+pub mod Theorems

@@ -2,27 +2,27 @@
 use mathlib.Core.Path.{_≡_, refl, sym, ap, _∙_, subst}
 use mathlib.Core.Bool.{Bool, true, false}
 use mathlib.Core.Logic.{_↔_}
-use mathlib.Core.List.{List, [], _∷_, _++_, map}
+use mathlib.Core.List.{List, [], _∷_, map}
 use Prim.Native.Nat.{ℕ, zero, suc, _+_, _*_, _-_, _≤_, _<_}
 use native.Mathlib.Omega.{arith}
-use lib.ListN.{length, take, drop, getD, length-append, length-drop, replicate, length-replicate, List·getD-append, drop-of-length-le}
-use lib.Dec.{eqb, leb}
-use borrow.Author.Tests.{lt-leb, le-ltb, leb-true, leb-false, ne-eqb}
-use Rattle.numbers.specs.Refusals.{nothing-there}
-use Rattle.numbers.specs.Answers.{Answer, accepted, refused, pass, _>>=_, _>>_, refuse_when_else_, each, given, All}
+use lib.ListN.{length, take, drop, getD, drop-of-length-le}
+use lib.Dec.{leb}
+use borrow.Author.Tests.{lt-leb, leb-true, leb-false, ne-eqb}
+use Rattle.numbers.specs.Answers.{accepted, pass, each, All}
 use Rattle.numbers.specs.Bytes.{Bytes, be16}
 use Rattle.numbers.proofs.AnswerLaws.{when-hit, when-pass, accepted-inj, bind-accepted, bind-pass, then-accepted, then-pass, refuse-pass, each-pass}
 use Rattle.numbers.proofs.ByteLaws.{bytes-left, bytes-right}
 use Rattle.sd_format.specs.Settings.{Settings}
-use Rattle.sd_format.specs.Sequences.{all, starts, counted, HandsOut, ended, gave}
+use Rattle.sd_format.specs.Sequences.{starts, counted, HandsOut, ended, gave}
 use Rattle.sd_format.specs.Options.{Opt}
-use Rattle.sd_format.specs.Kinds.{Kind, configuration, load-balancing, address, unknown, kind-of, judge-length, judge-text, judge-kind, row-of, scanned, unscanned}
-use Rattle.sd_format.specs.Frames.{Frame, size, one-option, read-option, permitted, permit, all-options, read-options, slots, zeros, filled, table-after, misfit, look-up, Run, next-of-run, along}
+use Rattle.sd_format.specs.Kinds.{Kind, configuration, load-balancing, address, unknown, kind-of, judge-text, judge-kind, scanned, unscanned}
+use Rattle.sd_format.specs.Frames.{Frame, size, one-option, read-option, permitted, permit, all-options, read-options, slots, table-after, misfit, look-up, next-of-run, along}
 use Rattle.sd_format.specs.Fields.{fields}
-use Rattle.sd_format.specs.Layout.{lay-all, lay-option, lay-options, wire, OptionFits}
-use Rattle.sd_format.proofs.SequenceLaws.{all-exact, all-laid-read, all-count, counted-past, counted-in, counted-drop, length-starts, read-start}
+use Rattle.sd_format.specs.Layout.{lay-all, lay-options, wire, OptionFits}
+use Rattle.sd_format.proofs.SequenceLaws.{all-exact, all-laid-read, all-count, counted-past, counted-in, counted-drop, read-start}
+use Rattle.sd_format.proofs.TableLaws.{Few, after-long, slot, offset-slot}
 use Rattle.sd_format.proofs.FrameLaws.{lay-frame, length-frame, Sound, option-lay, option-says, option-within}
-use Rattle.sd_format.proofs.FieldLaws.{Wired, wired, shown}
+use Rattle.sd_format.proofs.FieldLaws.{wired, shown}
 
 -- ---- all options, as type and bytes
 
@@ -133,36 +133,29 @@ unscanned-option s f e =
     let (judged, same) = then-accepted _ _ _ e2 in
     bind-pass _ _ p framed ∙ then-pass _ _ (then-pass _ _ (then-accepted _ _ _ judged .0) ∙ unscanned-text (kind-of (p .type)) (p .body)) ∙ same
 
-pub length-zeros : (n : ℕ) → length (zeros n) ≡ n
-unfolding zeros
-length-zeros n = length-replicate n 0
+-- 1,388 bytes hold no more options than there are slots
+pub few-slots-used : (s : List ℕ) (fs : List Frame) → all-options s ≡ accepted fs → length s ≤ 1388 → length fs ≤ 347
+few-slots-used s fs e short = omega (arith, few-options s fs e)
 
 module _ (s : List ℕ) (fs : List Frame) (e : all-options s ≡ accepted fs) (short : length s ≤ 1388) (tab : List ℕ) (long : slots ≤ length tab) where
   abbrev T : List ℕ
   T = table-after tab (accepted fs)
 
-  few : length fs ≤ slots
+  few : Few (accepted fs)
+  few gs h = rw (← (accepted-inj fs gs h)) (few-slots-used s fs e short)
+
+  less : length fs ≤ 347
+  less = few fs refl
+
+  offset : (k : ℕ) → k < length fs → getD T k 0 ≡ getD (starts size 0 fs) k 0
   unfolding slots
-  few = omega (arith, few-options s fs e)
-
-  table-is : T ≡ (starts size 0 fs ++ zeros (slots - length fs)) ++ drop slots tab
-  unfolding table-after filled
-  table-is = rw (le-ltb (length tab) slots long)
-
-  table-long : length T ≡ length tab
-  table-long = rw table-is (simp (length-append, length-starts, length-zeros, length-drop) (omega (arith, few)))
-
-  slot : (k : ℕ) → k < length fs → getD T k 0 ≡ getD (starts size 0 fs) k 0
-  slot k h =
-      rw table-is
-      (List·getD-append (starts size 0 fs ++ zeros (slots - length fs)) (drop slots tab) 0 k (simp (length-append, length-starts) (omega arith))
-      ∙ List·getD-append (starts size 0 fs) (zeros (slots - length fs)) 0 k (rw length-starts h))
+  offset k h = slot tab long (accepted fs) few k (omega (arith, less)) ∙ offset-slot fs k h
 
   here : (k : ℕ) → k < length fs → look-up s T (length fs) k ≡ misfit (one-option unscanned (drop (getD T k 0) s))
-  unfolding look-up
+  unfolding look-up slots
   here k h =
-      when-pass _ _ _ (lt-leb (length fs) k h) ∙ when-pass _ _ _ (lt-leb slots k (omega (arith, few)))
-      ∙ when-pass _ _ _ (lt-leb (length T) k (rw table-long (omega (arith, few))))
+      when-pass _ _ _ (lt-leb (length fs) k h) ∙ when-pass _ _ _ (lt-leb 347 k (omega (arith, less)))
+      ∙ when-pass _ _ _ (lt-leb (length T) k (rw (after-long tab long (accepted fs) few) (omega (arith, less))))
 
   -- looking up any number in the table of these options gives what counting from the front gives
   pub looked-up : (k : ℕ) → look-up s T (length fs) k ≡ counted fs k
@@ -175,7 +168,7 @@ module _ (s : List ℕ) (fs : List Frame) (e : all-options s ≡ accepted fs) (s
           let h : k < length fs = leb-false _ _ p in
           let (f, c) = counted-in fs k h in
           let read : one-option unscanned (drop (getD T k 0) s) ≡ accepted f =
-          rw (slot k h) (unscanned-option _ f (read-start read-option size 4 (omega arith) (option-within scanned) s 0 fs k f e c)) in
+          rw (offset k h) (unscanned-option _ f (read-start read-option size 4 (omega arith) (option-within scanned) s 0 fs k f e c)) in
           here k h ∙ rw (read, c)
 
   -- ---- the run cursor hands out the counted options of its run

@@ -1,23 +1,22 @@
 -- The whole payload: what is accepted is what is laid out. Assumes nothing.
-use mathlib.Core.Path.{_≡_, refl, sym, ap, ap₂, _∙_, subst}
-use mathlib.Core.Bool.{Bool, true, false, not}
+use mathlib.Core.Path.{_≡_, refl, sym, _∙_, subst}
 use mathlib.Core.Logic.{_↔_}
 use mathlib.Core.List.{List, [], _∷_, _++_, append-assoc, map}
-use Prim.Native.Nat.{ℕ, zero, suc, _+_, _*_, _/_, _%_, _-_, _≤_, _<_}
+use Prim.Native.Nat.{ℕ, _+_, _*_, _/_, _%_, _≤_, _<_}
 use native.Mathlib.Omega.{arith}
 use lib.ListN.{length, take, drop, getD, length-append, length-drop, length-map, take-append-drop}
 use lib.Seq.{take-at, drop-at, drop-drop, length-take-le, take-append-seam, drop-append-seam, take-all}
 use borrow.Author.Tests.{ltb-false, eqb-true, le-ltb, eq-eqb}
-use Rattle.numbers.specs.Answers.{Answer, accepted, refused, Verdict, pass, _>>=_, _>>_, refuse_when_else_, given, All}
+use Rattle.numbers.specs.Answers.{accepted, pass, refuse_when_else_, given, All}
 use Rattle.numbers.specs.Bytes.{Bytes, be16, be24, be32, at16, at24, at32}
-use Rattle.numbers.proofs.AnswerLaws.{when-accepted, accepted-inj, not-refused, bind-accepted, bind-pass, then-accepted, then-pass, test-accepted, refuse-pass}
-use Rattle.numbers.proofs.ByteLaws.{bytes-drop, bytes-take, be16-at, be24-at, be32-at, tab, take-tab, at24-be, at32-be, at32-drop}
+use Rattle.numbers.proofs.AnswerLaws.{when-accepted, accepted-inj, bind-accepted, bind-pass, then-accepted, then-pass, test-accepted, refuse-pass}
+use Rattle.numbers.proofs.ByteLaws.{bytes-drop, bytes-take, be16-at, be24-at, be32-at, tab, take-tab, at32-be, at32-drop}
 use Rattle.sd_format.specs.Settings.{Settings}
-use Rattle.sd_format.specs.Options.{Opt, has}
-use Rattle.sd_format.specs.Frames.{Frame, read-options}
+use Rattle.sd_format.specs.Options.{has}
+use Rattle.sd_format.specs.Frames.{read-options}
 use Rattle.sd_format.specs.Fields.{fields}
 use Rattle.sd_format.specs.Entries.{Entry, sixteen, read-entries, placed-entry}
-use Rattle.sd_format.specs.Layout.{bit, lay-all, lay-entry, lay-entries, lay-options, wire, Flags, Payload, lay-opening, sized, lay-parts, lay, Fits, EntryFits, OptionFits}
+use Rattle.sd_format.specs.Layout.{bit, lay-all, lay-entry, lay-entries, lay-options, wire, Flags, Payload, lay-opening, sized, lay-parts, lay, Fits, EntryFits}
 use Rattle.sd_format.specs.Payload.{sizes, entries-length, options-length, entries-part, options-part, Reading, read-payload, flags, shown, handed-out}
 use Rattle.sd_format.proofs.BitLaws.{num, num-small, bit-num, num-has, has-num}
 use Rattle.sd_format.proofs.SequenceLaws.{all-exact, all-laid-read}
@@ -173,7 +172,7 @@ word-again s n b h =
 rejoin : (n k : ℕ) (s : List ℕ) → take k (drop n s) ++ drop (n + k) s ≡ drop n s
 rejoin n k s = rw (← (drop-drop k n s)) (take-append-drop k (drop n s))
 
-module _ (s : List ℕ) (b : Bytes s) (sz : Sizes (length s) (entries-length s) (options-length s)) where
+module _ (s : List ℕ) (sz : Sizes (length s) (entries-length s) (options-length s)) where
   entries-part-length : length (entries-part s) ≡ entries-length s
   unfolding entries-part
   entries-part-length = length-take-le (entries-length s) (drop 8 s) (rw length-drop (omega arith))
@@ -182,6 +181,7 @@ module _ (s : List ℕ) (b : Bytes s) (sz : Sizes (length s) (entries-length s) 
   unfolding options-part
   options-part-length = rw length-drop (omega arith)
 
+module _ (s : List ℕ) (b : Bytes s) (sz : Sizes (length s) (entries-length s) (options-length s)) where
   word1 : be32 (entries-length s) ≡ take 4 (drop 4 s)
   unfolding entries-length
   word1 = word-again s 4 b (omega arith)
@@ -194,7 +194,7 @@ module _ (s : List ℕ) (b : Bytes s) (sz : Sizes (length s) (entries-length s) 
   unfolding sized entries-part options-part
   whole-again =
       let e : 12 + entries-length s ≡ 8 + entries-length s + 4 = omega arith in
-      rw (entries-part-length, options-part-length, word1, word2, e, rejoin (8 + entries-length s) 4 s, append-assoc, rejoin 8 (entries-length s) s, rejoin 4 4 s, take-append-drop 4 s)
+      rw (entries-part-length s sz, options-part-length s sz, word1, word2, e, rejoin (8 + entries-length s) 4 s, append-assoc, rejoin 8 (entries-length s) s, rejoin 4 4 s, take-append-drop 4 s)
 
 bytes-entries : (s : List ℕ) → Bytes s → Bytes (entries-part s)
 unfolding entries-part
@@ -284,8 +284,8 @@ module _ (g : Settings) where
       let whole : lay (shown r) ≡ s = rw (again, opening, entries-laid, options-laid) (whole-again s b sz) in (
         record {
           five-bits = omega arith;
-          entries-short = rw (entries-laid, entries-part-length s b sz) (sz .short-entries);
-          options-short = rw (options-laid, options-part-length s b sz) (sz .short-options);
+          entries-short = rw (entries-laid, entries-part-length s sz) (sz .short-entries);
+          options-short = rw (options-laid, options-part-length s sz) (sz .short-options);
           all-short = rw whole (omega arith);
           entries-fit = rw (length-map (r .frames) fields) entries-fit;
           options-fit = fits;

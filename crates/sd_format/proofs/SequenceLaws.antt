@@ -3,18 +3,18 @@
 use mathlib.Core.Path.{_≡_, refl, sym, ap, _∙_, subst}
 use mathlib.Core.Logic.{_↔_}
 use mathlib.Core.List.{List, [], _∷_, _++_, map}
-use Prim.Native.Nat.{ℕ, zero, suc, _+_, _*_, _-_, _≤_, _<_, zero-le, suc-le-suc}
+use Prim.Native.Nat.{ℕ, zero, suc, _+_, _*_, _-_, _≤_, _<_, zero-le}
 use native.Mathlib.Nat.{le-of-suc-le-suc, mul-suc, mul-zero}
 use native.Mathlib.Numerals.{add-one}
 use native.Mathlib.Omega.{arith}
-use lib.ListN.{length, take, drop, getD, length-append, length-drop}
+use lib.ListN.{length, drop, getD, length-append, length-drop}
 use lib.Seq.{drop-at, drop-drop}
 use borrow.Author.Tests.{le-leb, lt-leb}
 use Rattle.numbers.specs.Refusals.{Refusal, nothing-there}
-use Rattle.numbers.specs.Answers.{Answer, accepted, refused, _>>=_, refuse_when_else_, given, All}
+use Rattle.numbers.specs.Answers.{Answer, accepted, refused, _>>=_, given, All}
 use Rattle.numbers.specs.Bytes.{Bytes}
-use Rattle.numbers.proofs.AnswerLaws.{when-hit, when-pass, not-refused, accepted-inj, bind-accepted, bind-pass}
-use Rattle.sd_format.specs.Sequences.{all-from, all, next-at, behind, starts, counted, HandsOut, ended, gave}
+use Rattle.numbers.proofs.AnswerLaws.{when-hit, when-pass, not-refused, accepted-inj, refused-inj, bind-accepted, bind-pass, bind-refused}
+use Rattle.sd_format.specs.Sequences.{all-from, all, next-at, behind, starts, counted, HandsOut, ended, gave, Stops, this-part, later-part}
 use Rattle.sd_format.specs.Layout.{lay-all}
 
 drop-past : (n b : ℕ) (s : List ℕ) → 1 ≤ n → drop n (b ∷ s) ≡ drop (n - 1) s
@@ -76,6 +76,29 @@ module _ {A : Type 0} (read : List ℕ → Answer A) (size : A → ℕ) where
         let (x, e1, e2) = bind-accepted _ _ _ e in
         let (xs, e3, e4) = bind-accepted _ _ _ e2 in
         first-of b t x xs e1 e3 a later (cc) (cc)
+
+    -- the first that is refused ends it
+    stops-from : (s : List ℕ) (k : ℕ) (r : Refusal) → all-from read size s k ≡ refused r → Stops read size (drop k s) r
+    unfolding all-from _>>=_
+    stops-from [] zero r e = not-refused r [] (sym e)
+    stops-from [] (suc k) r e = not-refused r [] (sym e)
+    stops-from (b ∷ s) (suc k) r e = stops-from s k r e
+    stops-from (b ∷ s) zero r e = go (read (b ∷ s)) refl e (λ k. stops-from s k r)
+      where
+        go : (m : Answer A) → read (b ∷ s) ≡ m → (m >>= λ a. all-from read size s (size a - 1) >>= λ later. accepted (a ∷ later)) ≡ refused r
+            → ((k : ℕ) → all-from read size s k ≡ refused r → Stops read size (drop k s) r) → Stops read size (b ∷ s) r
+        go (accepted a) h e ih =
+            let some : 1 ≤ size a = omega (arith, within (b ∷ s) a h) in
+            later-part {s = b ∷ s} {r = r} (omega arith) h (rw (drop-past (size a) b s some) (ih (size a - 1) (bind-refused (all-from read size s (size a - 1)) (λ later. a ∷ later) r e)))
+        go (refused q) h e ih = this-part {s = b ∷ s} (omega arith) (h ∙ ap refused (refused-inj {A = List A} q r e))
+
+    all-stopped : {s : List ℕ} {r : Refusal} → Stops read size s r → all read size s ≡ refused r
+    unfolding _>>=_
+    all-stopped (this-part {s} {r} some e) = all-stop s r some e
+    all-stopped (later-part {s} {a} {r} some e later) = all-more s a some (omega (arith, within s a e)) e ∙ rw (all-stopped later)
+
+    pub all-stops : (s : List ℕ) (r : Refusal) → (all read size s ≡ refused r) ↔ Stops read size s r
+    all-stops s r = (stops-from s 0 r, all-stopped)
 
     -- how many there can be
     pub all-count : (t : List ℕ) (as′ : List A) → all read size t ≡ accepted as′ → least * length as′ ≤ length t

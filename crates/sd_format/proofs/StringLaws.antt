@@ -14,7 +14,8 @@ use lib.Seq.{drop-cons, drop-drop, length-take-le, take-append-seam, drop-append
 use borrow.Author.Tests.{ltb-false, leb-true, eqb-true, eqb-false, le-ltb, le-leb, eq-eqb, ne-eqb, not-false}
 use Rattle.numbers.specs.Refusals.{Refusal, missing-terminator, item-too-long, trailing-data, empty-key, invalid-key-byte, only-whitespace}
 use Rattle.numbers.specs.Answers.{Answer, accepted, refused, Verdict, pass, _>>=_, _>>_, refuse_when_else_, given, verdict, All}
-use Rattle.numbers.proofs.AnswerLaws.{when-hit, when-pass, when-accepted, not-refused, accepted-inj, then-accepted, then-pass, bind-accepted, bind-pass, test-accepted, all-both}
+use Rattle.numbers.proofs.AnswerLaws.{when-hit, when-pass, when-accepted, not-refused, accepted-inj, then-accepted, then-pass, bind-accepted, bind-pass, test-accepted, all-map, all-both}
+use Rattle.numbers.proofs.TestLaws.{and-inv}
 use Rattle.sd_format.specs.Strings.{key-of, judge-bytes, all-spaces, judge-key, judge-item, closed, items-from, read-string}
 use Rattle.sd_format.specs.Layout.{GoodItem, lay-items}
 use Rattle.sd_format.specs.Demand3.{StringsExact}
@@ -107,12 +108,8 @@ module _ (s : List ℕ) (at : ℕ) (inside : at < length s) where
 -- ---- the key rule
 
 -- a key byte
-abbrev InRange : ℕ → Type 0
+abbrev pub InRange : ℕ → Type 0
 InRange b = (0x20 ≤ b) × (b ≤ 0x7e)
-
-both-true : (a b : Bool) → (a && b) ≡ true → (a ≡ true) × (b ≡ true)
-both-true true b e = (refl, e)
-both-true false b e = absurd (let z : _≡_ {A = ℕ} 0 1 = cc in omega arith)
 
 otherwise : (t : Bool) → (t ≡ true → ⊥) → t ≡ false
 otherwise true never = absurd (never refl)
@@ -125,15 +122,15 @@ bytes-pass item i [] = ((λ e. tt), (λ h. refl))
 bytes-pass item i (b ∷ key) =
     let test = test-accepted (invalid-key-byte item i b) (leb 0x20 b && leb b 0x7e) (judge-bytes item (i + 1) key) tt in
     let later = bytes-pass item (i + 1) key in (
-      (λ e. let r = both-true _ _ (test .0 e .0) in ((leb-true _ _ (r .0), leb-true _ _ (r .1)), later .0 (test .0 e .1))),
+      (λ e. let r = and-inv _ _ (test .0 e .0) in ((leb-true _ _ (r .0), leb-true _ _ (r .1)), later .0 (test .0 e .1))),
       (λ h. test .1 (simp (le-leb _ _ (h .0 .0), le-leb _ _ (h .0 .1)), later .1 (h .1))),
     )
 
-spaces : (key : List ℕ) → (all-spaces key ≡ true) ↔ All (λ b. b ≡ 0x20) key
+pub spaces : (key : List ℕ) → (all-spaces key ≡ true) ↔ All (λ b. b ≡ 0x20) key
 unfolding all-spaces
 spaces [] = ((λ e. tt), (λ h. refl))
 spaces (b ∷ key) = (
-  (λ e. let r = both-true _ _ e in (eqb-true _ _ (r .0), spaces key .0 (r .1))),
+  (λ e. let r = and-inv _ _ e in (eqb-true _ _ (r .0), spaces key .0 (r .1))),
   (λ h. simp (eq-eqb b 0x20 (h .0)) (spaces key .1 (h .1))),
 )
 
@@ -141,7 +138,7 @@ spaces (b ∷ key) = (
 abbrev Passes : List ℕ → Type 0
 Passes key = (key ≡ [] → ⊥) × All InRange key × (All (λ b. b ≡ 0x20) key → ⊥)
 
-no-length : (key : List ℕ) → length key ≡ 0 → key ≡ []
+pub no-length : (key : List ℕ) → length key ≡ 0 → key ≡ []
 no-length [] e = refl
 no-length (b ∷ key) e = absurd (omega arith)
 
@@ -209,7 +206,10 @@ abbrev KeyByte : ℕ → Type 0
 KeyByte b = (0x20 ≤ b) × (b ≤ 0x7e) × (b ≡ 0x3d → ⊥)
 
 key-bytes : (key : List ℕ) → All KeyByte key ↔ (All InRange key × NoEquals key)
-key-bytes = all-both KeyByte InRange (λ b. b ≡ 0x3d → ⊥) (λ b. ((λ h. ((h .0, h .1), h .2)), (λ h. (h .0 .0, h .0 .1, h .1))))
+key-bytes key = (
+  (λ h. (all-map KeyByte InRange (λ b w. (w .0, w .1)) key h, all-map KeyByte (λ b. b ≡ 0x3d → ⊥) (λ b w. w .2) key h)),
+  (λ h. all-map (λ b. InRange b × (b ≡ 0x3d → ⊥)) KeyByte (λ b w. (w .0 .0, w .0 .1, w .1)) key (all-both InRange (λ b. b ≡ 0x3d → ⊥) key (h .0) (h .1))),
+)
 
 -- the key of a good item, found again by the reading
 key-found : (item : List ℕ) (g : GoodItem item) → key-of item ≡ g .key

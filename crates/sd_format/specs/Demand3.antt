@@ -5,7 +5,7 @@ use mathlib.Core.Bool.{true}
 use mathlib.Core.Logic.{_↔_}
 use mathlib.Core.List.{List, [], _∷_, _++_, map}
 use lib.ListN.{length, take, drop}
-use Rattle.numbers.specs.Refusals.{Refusal, refusal}
+use Rattle.numbers.specs.Refusals.{refusal}
 use Rattle.numbers.specs.Answers.{Answer, accepted, refused, given, All}
 use Rattle.sd_format.specs.Settings.{Settings}
 use Rattle.sd_format.specs.Sequences.{HandsOut, behind, counted}
@@ -13,8 +13,8 @@ use Rattle.sd_format.specs.Options.{Opt}
 use Rattle.sd_format.specs.Strings.{read-string}
 use Rattle.sd_format.specs.Frames.{size, slots, lent, table-after, read-index, look-up, next-option, next-of-run, along}
 use Rattle.sd_format.specs.Fields.{fields}
-use Rattle.sd_format.specs.Entries.{Head, sixteen, next-entry}
-use Rattle.sd_format.specs.Layout.{GoodItem, lay-items, OptionFits, lay-options, wire, RunFits, Payload, lay, Fits, Header, lay-header}
+use Rattle.sd_format.specs.Entries.{sixteen, next-entry}
+use Rattle.sd_format.specs.Layout.{GoodItem, lay-items, OptionFits, lay-options, wire, Payload, lay, Fits, Header, lay-header}
 use Rattle.sd_format.specs.Payload.{entries-part, options-part, read-payload, frames-of, shown, handed-out, read-message}
 
 -- `p` fits the conditions, and its layout is `s`
@@ -60,12 +60,6 @@ pub record IndexExact (s : List ℕ) : Type 0 where
 pub record MessageExact (g : Settings) (s : List ℕ) : Type 0 where
   pub handed : (p : Payload) → (given shown (read-message g s) ≡ accepted p)
       ↔ ((h : Header) × (h .session ≡ 0 → ⊥) × Fits g p × (lay-header h ++ lay p ≡ s))
-
--- what a refusal of an entry's runs says: which run leaves the list of `n` options, the first before the second
-pub data RunsRefused (n : ℕ) (h : Head) : Refusal → Type 0 where
-  first-run : (RunFits n (h .start1) (h .count1) → ⊥) → RunsRefused n h (refusal 12 (1 ∷ h .start1 ∷ h .count1 ∷ n ∷ []))
-  second-run : RunFits n (h .start1) (h .count1) → (RunFits n (h .start2) (h .count2) → ⊥)
-      → RunsRefused n h (refusal 12 (2 ∷ h .start2 ∷ h .count2 ∷ n ∷ []))
 
 -- a configuration string is accepted exactly when some list of items with good keys, laid out and closed, gives those bytes
 pub record StringsExact (s : List ℕ) : Type 0 where

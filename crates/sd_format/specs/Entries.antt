@@ -44,6 +44,14 @@ head-of (subscribe-ack h g) = h
 
 -- ---- one entry
 
+-- how many bytes each entry takes
+abbrev pub entry-length : ℕ
+entry-length = 16
+
+-- the initial data bit, by its value
+abbrev pub initial-data-bit : ℕ
+initial-data-bit = 0x80
+
 unfoldable pub head : List ℕ → Head
 head s =
     record {
@@ -61,7 +69,7 @@ unfoldable pub group : List ℕ → Group
 group s =
     record {
       reserved = getD s 12 0;
-      initial-data = has (getD s 13 0) 0x80;
+      initial-data = has (getD s 13 0) initial-data-bit;
       spare = getD s 13 0 / 16 % 8;
       counter = getD s 13 0 % 16;
       eventgroup = at16 s 14;
@@ -82,15 +90,15 @@ by-type type s =
 -- one entry alone: 1 with 16 below 16 bytes, then 11; later bytes aren't read
 unfoldable pub read-entry : List ℕ → Answer Entry
 read-entry s =
-    refuse unexpected-end 16 when ltb (length s) 16 else
+    refuse unexpected-end entry-length when ltb (length s) entry-length else
     by-type (getD s 0 0) s
 
--- the entry cursor, at a byte offset; each entry takes 16 bytes
+-- the entry cursor, at a byte offset
 abbrev pub next-entry : List ℕ → ℕ → Answer Entry
 next-entry = next-at read-entry
 
 abbrev pub sixteen : Entry → ℕ
-sixteen e = 16
+sixteen e = entry-length
 
 -- ---- an entry beside `n` options
 

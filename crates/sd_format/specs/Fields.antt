@@ -7,7 +7,7 @@ use lib.ListN.{take, drop, getD}
 use Rattle.numbers.specs.Refusals.{nothing-there}
 use Rattle.numbers.specs.Answers.{Answer, accepted, refused, _>>=_}
 use Rattle.numbers.specs.Bytes.{at16}
-use Rattle.sd_format.specs.Options.{Family, ipv4, ipv6, Role, First, Opt, configuring, balancing, addressed, unrecognised, has}
+use Rattle.sd_format.specs.Options.{Family, ipv4, ipv6, First, Opt, configuring, balancing, addressed, unrecognised, discardable-bit, has}
 use Rattle.sd_format.specs.Strings.{read-string}
 use Rattle.sd_format.specs.Kinds.{Kind, configuration, load-balancing, address, unknown, kind-of, unscanned}
 use Rattle.sd_format.specs.Frames.{Frame, one-option}
@@ -15,7 +15,7 @@ use Rattle.sd_format.specs.Frames.{Frame, one-option}
 -- ---- where the fields stand
 
 abbrev pub discardable : List ℕ → Bool
-discardable body = has (getD body 0 0) 0x80
+discardable body = has (getD body 0 0) discardable-bit
 
 abbrev pub first : List ℕ → First
 first body = record { discardable = discardable body; others = getD body 0 0 % 128 }

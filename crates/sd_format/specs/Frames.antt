@@ -1,9 +1,8 @@
 -- The options part: each option as its type and the bytes after it; all of them with the first refusal; the offset table; lookup and the
 -- cursors. Assumes nothing: these are definitions.
 use Prim.Native.Nat.{ℕ, _+_, _-_}
-use mathlib.Core.Path.{_≡_}
-use mathlib.Core.Bool.{Bool, true, false, not, _||_, cond}
-use mathlib.Core.List.{List, [], _∷_, _++_}
+use mathlib.Core.Bool.{Bool, true, not, _||_, cond}
+use mathlib.Core.List.{List, _++_}
 use lib.ListN.{length, take, drop, getD, replicate}
 use lib.Dec.{ltb, leb, eqb}
 use Rattle.numbers.specs.Refusals.{option-length, option-length-zero, unknown-option, index-too-large, nothing-there, table-misfit, few-slots}
@@ -11,7 +10,7 @@ use Rattle.numbers.specs.Answers.{Answer, accepted, refused, Verdict, pass, _>>
 use Rattle.numbers.specs.Bytes.{at16}
 use Rattle.sd_format.specs.Settings.{Settings}
 use Rattle.sd_format.specs.Sequences.{all, next-at, starts}
-use Rattle.sd_format.specs.Options.{has}
+use Rattle.sd_format.specs.Options.{discardable-bit, has}
 use Rattle.sd_format.specs.Kinds.{Kind, configuration, load-balancing, address, unknown, kind-of, judge-kind, scanned, unscanned}
 
 -- an option as it stands in the part: its type, and the bytes after the type, the first of which carries the discardable bit
@@ -45,7 +44,7 @@ read-option = one-option scanned
 -- an unknown option needs the discardable bit, unless the discard setting is on (as the Rust: one that may not stand refuses the whole payload;
 -- DIFFERENCES, R3)
 unfoldable pub permitted : Settings → Kind → List ℕ → Bool
-permitted g unknown body = g .discard || has (getD body 0 0) 0x80
+permitted g unknown body = g .discard || has (getD body 0 0) discardable-bit
 permitted g configuration body = true
 permitted g load-balancing body = true
 permitted g (address family role) body = true

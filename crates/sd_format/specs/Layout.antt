@@ -9,9 +9,9 @@ use lib.ListN.{length, drop, getD}
 use Rattle.numbers.specs.Bytes.{be16, be24, be32}
 use Rattle.numbers.specs.Answers.{All}
 use Rattle.sd_format.specs.Settings.{Settings}
-use Rattle.sd_format.specs.Options.{Family, ipv4, ipv6, Role, endpoint, multicast, sd-endpoint, First, Opt, configuring, balancing, addressed, unrecognised}
+use Rattle.sd_format.specs.Options.{Family, ipv4, ipv6, Role, endpoint, multicast, sd-endpoint, First, Opt, configuring, balancing, addressed, unrecognised, discardable-bit}
 use Rattle.sd_format.specs.Frames.{Frame}
-use Rattle.sd_format.specs.Entries.{Head, Group, Entry, find, offer, subscribe, subscribe-ack, head-of}
+use Rattle.sd_format.specs.Entries.{Head, Group, Entry, find, offer, subscribe, subscribe-ack, head-of, initial-data-bit}
 
 -- a bit of value `v` in a byte
 abbrev pub bit : ℕ → Bool → ℕ
@@ -45,7 +45,7 @@ pub record GoodItem (item : List ℕ) : Type 0 where
 
 -- the byte after the type
 abbrev pub lay-first : First → ℕ
-lay-first b = bit 0x80 (b .discardable) + b .others
+lay-first b = bit discardable-bit (b .discardable) + b .others
 
 abbrev pub lay-type : Family → Role → ℕ
 lay-type ipv4 endpoint = 0x04
@@ -99,7 +99,7 @@ lay-head h =
     (be16 (h .service) ++ (be16 (h .instance) ++ (h .major ∷ be24 (h .ttl))))
 
 unfoldable pub lay-group : Group → List ℕ
-lay-group e = e .reserved ∷ (bit 0x80 (e .initial-data) + e .spare * 16 + e .counter) ∷ be16 (e .eventgroup)
+lay-group e = e .reserved ∷ (bit initial-data-bit (e .initial-data) + e .spare * 16 + e .counter) ∷ be16 (e .eventgroup)
 
 unfoldable pub lay-entry : Entry → List ℕ
 lay-entry (find h minor) = 0x00 ∷ (lay-head h ++ be32 minor)
@@ -135,6 +135,16 @@ pub record Flags : Type 0 where
   pub unicast : Bool
   pub initial-data-control : Bool
 
+-- their bits in byte 0, by their values
+abbrev pub reboot-bit : ℕ
+reboot-bit = 0x80
+
+abbrev pub unicast-bit : ℕ
+unicast-bit = 0x40
+
+abbrev pub initial-data-control-bit : ℕ
+initial-data-control-bit = 0x20
+
 -- `spare` is the other five bits of byte 0, `reserved` bytes 1 to 3
 pub record Payload : Type 0 where
   pub flags : Flags
@@ -145,7 +155,7 @@ pub record Payload : Type 0 where
 
 unfoldable pub lay-opening : Flags → ℕ → ℕ → List ℕ
 lay-opening f spare reserved =
-    (bit 0x80 (f .reboot) + bit 0x40 (f .unicast) + bit 0x20 (f .initial-data-control) + spare) ∷ be24 reserved
+    (bit reboot-bit (f .reboot) + bit unicast-bit (f .unicast) + bit initial-data-control-bit (f .initial-data-control) + spare) ∷ be24 reserved
 
 -- a part with its length in front
 unfoldable pub sized : List ℕ → List ℕ

@@ -8,5 +8,10 @@ pub mod Fields
 pub mod Entries
 pub mod Layout
 pub mod Payload
+pub mod Rules
 pub mod Demand3
 pub mod Cases
+pub mod Order
+pub mod Bounds
+pub mod Places
+pub mod Theorems

@@ -24,6 +24,10 @@ pub data Opt : Type 0 where
   addressed : Family → Role → First → (address : List ℕ) → (reserved protocol port : ℕ) → Opt
   unrecognised : (type : ℕ) → First → (rest : List ℕ) → Opt
 
+-- the discardable bit, by its value
+abbrev pub discardable-bit : ℕ
+discardable-bit = 0x80
+
 -- whether the byte `b` has the bit of value `v`
 abbrev pub has : (b v : ℕ) → Bool
 has b v = eqb (b / v % 2) 1

@@ -11,8 +11,8 @@ use Rattle.sd_format.specs.Settings.{Settings}
 use Rattle.sd_format.specs.Options.{has}
 use Rattle.sd_format.specs.Frames.{Frame, read-options}
 use Rattle.sd_format.specs.Fields.{fields}
-use Rattle.sd_format.specs.Entries.{Entry, read-entries}
-use Rattle.sd_format.specs.Layout.{Flags, Payload}
+use Rattle.sd_format.specs.Entries.{Entry, entry-length, read-entries}
+use Rattle.sd_format.specs.Layout.{Flags, reboot-bit, unicast-bit, initial-data-control-bit, Payload}
 
 -- ---- the sizes: `n` bytes, the entries length and the options length
 
@@ -20,7 +20,7 @@ unfoldable pub sizes : (n entries options : ℕ) → Verdict
 sizes n entries options =
     refuse unexpected-end 12 when ltb n 12 else
     refuse entries-too-large entries when ltb 1388 entries else
-    refuse entries-uneven entries when not (eqb (entries % 16) 0) else
+    refuse entries-uneven entries when not (eqb (entries % entry-length) 0) else
     refuse unexpected-end (12 + entries) when ltb n (12 + entries) else
     refuse options-too-large options when ltb 1388 options else
     refuse payload-too-large (12 + entries + options) when ltb 1400 (12 + entries + options) else
@@ -66,7 +66,7 @@ frames-of = given (λ r. r .frames)
 
 -- byte 0 (as the Rust: the third flag is read whatever the release; DIFFERENCES, R4)
 abbrev pub flags : ℕ → Flags
-flags b = record { reboot = has b 0x80; unicast = has b 0x40; initial-data-control = has b 0x20 }
+flags b = record { reboot = has b reboot-bit; unicast = has b unicast-bit; initial-data-control = has b initial-data-control-bit }
 
 -- the reading, each option by its kind's own fields
 unfoldable pub shown : Reading → Payload
@@ -84,9 +84,13 @@ handed-out g s = given shown (read-payload g s)
 
 -- ---- the message with its SD header
 
+-- how many bytes it takes
+abbrev pub header-length : ℕ
+header-length = 16
+
 unfoldable pub header : List ℕ → Verdict
 header s =
-    refuse unexpected-end 16 when ltb (length s) 16 else
+    refuse unexpected-end header-length when ltb (length s) header-length else
     refuse wrong-message-id (at32 s 0) when not (eqb (at32 s 0) 0xffff8100) else
     refuse wrong-client (at16 s 8) when not (eqb (at16 s 8) 0) else
     refuse session-zero when eqb (at16 s 10) 0 else
@@ -97,4 +101,4 @@ header s =
 
 -- all later bytes are the payload, and its refusals count from the payload's start
 unfoldable pub read-message : Settings → List ℕ → Answer Reading
-read-message g s = header s >> read-payload g (drop 16 s)
+read-message g s = header s >> read-payload g (drop header-length s)

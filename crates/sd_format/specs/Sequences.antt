@@ -1,11 +1,11 @@
 -- Parts that stand one after the other and are read from the front: all of them, where each starts, the one at a place, and a cursor that
 -- hands them out. Options and entries are both read so. Assumes nothing: these are definitions.
-use Prim.Native.Nat.{ℕ, zero, suc, _+_, _-_}
+use Prim.Native.Nat.{ℕ, zero, suc, _+_, _-_, _≤_}
 use mathlib.Core.Path.{_≡_}
 use mathlib.Core.List.{List, [], _∷_}
 use lib.ListN.{length, drop}
 use lib.Dec.{leb}
-use Rattle.numbers.specs.Refusals.{nothing-there}
+use Rattle.numbers.specs.Refusals.{Refusal, nothing-there}
 use Rattle.numbers.specs.Answers.{Answer, accepted, refused, _>>=_, refuse_when_else_}
 
 -- `read` reads one part from the front of some bytes, and `size` is how many it takes
@@ -50,3 +50,8 @@ counted (a ∷ later) (suc k) = counted later k
 pub data HandsOut {C A : Type 0} (next : C → Answer A) (move : A → C → C) : C → List A → Type 0 where
   ended : {c : C} → next c ≡ refused nothing-there → HandsOut next move c []
   gave : {c : C} {a : A} {later : List A} → next c ≡ accepted a → HandsOut next move (move a c) later → HandsOut next move c (a ∷ later)
+
+-- Parts are read one after the other, and the first that is refused ends it.
+pub data Stops {A : Type 0} (read : List ℕ → Answer A) (size : A → ℕ) : List ℕ → Refusal → Type 0 where
+  this-part : {s : List ℕ} {r : Refusal} → 1 ≤ length s → read s ≡ refused r → Stops read size s r
+  later-part : {s : List ℕ} {a : A} {r : Refusal} → 1 ≤ length s → read s ≡ accepted a → Stops read size (drop (size a) s) r → Stops read size s r

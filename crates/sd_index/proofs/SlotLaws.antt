@@ -8,7 +8,7 @@ use lib.ListN.{length, drop, getD, set, length-append, length-drop, replicate-ap
 use lib.Seq.{drop-cons, set-at, drop-at}
 use borrow.Author.Tests.{lt-ltb, le-ltb}
 use Rattle.sd_format.specs.Frames.{slots, zeros}
-use Rattle.sd_format.proofs.OptionLaws.{length-zeros}
+use Rattle.sd_format.proofs.TableLaws.{length-zeros}
 use Rattle.sd_index.specs.Indexed.{cleared}
 
 -- one more slot behind those that were written

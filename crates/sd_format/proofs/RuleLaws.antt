@@ -1,0 +1,362 @@
+-- The readings follow document 01's rules: line by line, as both are written. Assumes nothing.
+use mathlib.Core.Path.{_≡_, refl, sym, ap, _∙_, subst}
+use mathlib.Core.Bool.{Bool, true, false, not, _||_, true≢false, false≢true}
+use mathlib.Core.Logic.{_↔_, _≢_, _⊎_, inl, inr, ⊎-elim}
+use mathlib.Core.List.{List, [], _∷_}
+use Prim.Native.Nat.{ℕ, _+_, _/_, _%_, _<_}
+use native.Mathlib.Omega.{arith}
+use lib.ListN.{length, take, drop, getD, length-drop}
+use lib.Seq.{length-take-le}
+use borrow.Author.Tests.{eqb-false, ne-eqb, not-true}
+use Rattle.numbers.specs.Refusals.{Refusal, refusal}
+use Rattle.numbers.specs.Answers.{Answer, accepted, refused, Verdict, pass, _>>_, each}
+use Rattle.numbers.specs.Bytes.{at16, at32}
+use Rattle.numbers.specs.Rules.{Rules, accept, _if_else_, part_else_, _then_, Accepts, Follows, FirstRefused}
+use Rattle.numbers.proofs.AnswerLaws.{not-refused, accepted-inj, when-accepted}
+use Rattle.numbers.proofs.TestLaws.{below, at-most, equal, unequal, lacks}
+use Rattle.numbers.proofs.RuleLaws.{follows-accepted, follows-refused, follows-passed, follows-if, follows-bind, follows-then, follows-part, given-refuses, each-refused}
+use Rattle.sd_format.specs.Settings.{Settings}
+use Rattle.sd_format.specs.Options.{Family, ipv4, ipv6, Role, endpoint, multicast, sd-endpoint, has}
+use Rattle.sd_format.specs.Strings.{read-string}
+use Rattle.sd_format.specs.Sequences.{next-at, Stops}
+use Rattle.sd_format.specs.Kinds.{Row, Length, exactly, one-or-more, kinds, row-in, row-of, kind-of, judge-length, judge-text, judge-kind, scanned, unscanned}
+use Rattle.sd_format.specs.Frames.{Frame, size, frame, one-option, read-option, permitted, permit, all-options, read-options, slots, lent, read-index, misfit, look-up, Run, next-of-run}
+use Rattle.sd_format.specs.Entries.{Entry, head-of, head, by-type, sixteen, read-entry, judge-run, judge-runs, placed-entry, read-entries}
+use Rattle.sd_format.specs.Layout.{lay-type, lay-length, Unknown, RunFits}
+use Rattle.sd_format.specs.Payload.{sizes, entries-length, options-length, entries-part, options-part, read-payload, header, read-message}
+use Rattle.sd_format.specs.Rules.{Fixed, load-balancing, ipv4-endpoint, ipv4-multicast, ipv4-sd-endpoint, ipv6-endpoint, ipv6-multicast, ipv6-sd-endpoint, OtherLength, option-rules, Scanned, Unscanned, permit-rules, options-rules, index-rules, EntryType, entry-rules, placed-rules, size-rules, payload-rules, header-rules, message-rules, lent-rules, look-up-rules, cursor-rules, run-rules}
+use Rattle.sd_format.specs.Theorems.{RulesFollowed}
+use Rattle.sd_format.proofs.SequenceLaws.{all-stops}
+use Rattle.sd_format.proofs.KindLaws.{row-configuration, row-load-balancing, row-address, row-unknown, type-cases}
+use Rattle.sd_format.proofs.StringRules.{string-refused}
+use Rattle.sd_format.proofs.FrameLaws.{frame-is, option-within}
+use Rattle.sd_format.proofs.OptionLaws.{read-parts}
+use Rattle.sd_format.proofs.EntryLaws.{run-inside, entry-cases, entry-long}
+
+-- ---- one option
+
+-- a fixed kind's row
+fixed-row : {type len : ℕ} → Fixed type len → row-of type .len ≡ exactly len
+unfolding row-of row-in kinds
+fixed-row load-balancing = refl
+fixed-row ipv4-endpoint = refl
+fixed-row ipv4-multicast = refl
+fixed-row ipv4-sd-endpoint = refl
+fixed-row ipv6-endpoint = refl
+fixed-row ipv6-multicast = refl
+fixed-row ipv6-sd-endpoint = refl
+
+fixed-address : (family : Family) (role : Role) → Fixed (lay-type family role) (lay-length family)
+fixed-address ipv4 endpoint = ipv4-endpoint
+fixed-address ipv4 multicast = ipv4-multicast
+fixed-address ipv4 sd-endpoint = ipv4-sd-endpoint
+fixed-address ipv6 endpoint = ipv6-endpoint
+fixed-address ipv6 multicast = ipv6-multicast
+fixed-address ipv6 sd-endpoint = ipv6-sd-endpoint
+
+exact-follows : (n had : ℕ) → Follows (judge-length (exactly n) had) (refusal 7 (n ∷ had ∷ 1 ∷ []) if had ≢ n else accept)
+unfolding judge-length
+exact-follows n had = follows-if _ _ (unequal had n) (follows-accepted tt)
+
+-- a type's length is its own, or free
+length-of : (type : ℕ) → (row-of type .len ≡ one-or-more) ⊎ ((n : ℕ) × Fixed type n)
+length-of type =
+    type-cases type
+    (λ t. inl (rw t (ap (λ (q : Row). q .len) row-configuration)))
+    (λ t. inr (5, rw t load-balancing))
+    (λ family role t. inr (lay-length family, rw t (fixed-address family role)))
+    (λ u. inl (ap (λ (q : Row). q .len) (row-unknown type u)))
+
+length-refused : (type had : ℕ) (r : Refusal) → (judge-length (row-of type .len) had ≡ refused r) ↔ OtherLength type had r
+unfolding judge-length
+length-refused type had r = (
+  (λ e. ⊎-elim
+      (λ free. not-refused r tt (sym e ∙ ap (λ (l : Length). judge-length l had) free))
+      (λ f. ⊎-elim
+      (λ w. record { needed = f .0; fixed = f .1; other = w .0; says = w .1 })
+      (λ w. absurd (w .1))
+      (exact-follows (f .0) had .refuses r .0 (sym (ap (λ (l : Length). judge-length l had) (fixed-row (f .1))) ∙ e)))
+      (length-of type)),
+  (λ w. ap (λ (l : Length). judge-length l had) (fixed-row (w .fixed)) ∙ exact-follows (w .needed) had .refuses r .1 (inl (w .other, w .says))),
+)
+
+-- a kind whose string is not judged, or a configuration
+kind-text : (type : ℕ) → (type ≡ 0x01) ⊎ ((text : List ℕ → Verdict) (body : List ℕ) → judge-text text (kind-of type) body ≡ pass)
+unfolding judge-text
+kind-text type =
+    type-cases type
+    (λ t. inl t)
+    (λ t. inr (λ text body. rw t (ap (λ (q : Row). judge-text text (q .kind) body) row-load-balancing)))
+    (λ family role t. inr (λ text body. rw t (ap (λ (q : Row). judge-text text (q .kind) body) (row-address family role))))
+    (λ u. inr (λ text body. ap (λ (q : Row). judge-text text (q .kind) body) (row-unknown type u)))
+
+module _ (text : List ℕ → Verdict) (Text : List ℕ → Refusal → Type 0) (says : (s : List ℕ) (r : Refusal) → (text s ≡ refused r) ↔ Text s r) where
+  configured : (type : ℕ) (body : List ℕ) → type ≡ 0x01 → judge-text text (kind-of type) body ≡ text (drop 1 body)
+  unfolding judge-text
+  configured type body t = rw t (ap (λ (q : Row). judge-text text (q .kind) body) row-configuration)
+
+  text-refused : (type : ℕ) (body : List ℕ) (r : Refusal) → (judge-text text (kind-of type) body ≡ refused r) ↔ ((type ≡ 0x01) × Text (drop 1 body) r)
+  text-refused type body r = (
+    (λ e. ⊎-elim
+        (λ t. (t, says (drop 1 body) r .0 (sym (configured type body t) ∙ e)))
+        (λ free. not-refused r tt (sym e ∙ free text body))
+        (kind-text type)),
+    (λ w. configured type body (w .0) ∙ says (drop 1 body) r .1 (w .1)),
+  )
+
+  -- behind the frame: its kind's length, then its string
+  abbrev kind-rules : (type had : ℕ) (body : List ℕ) → Rules
+  kind-rules type had body = part (OtherLength type had) else part (λ r. (type ≡ 0x01) × Text (drop 1 body) r) else accept
+
+  kind-follows : (f : Frame) → Follows (judge-kind text (f .type) (f .body) >> accepted f) (kind-rules (f .type) (length (f .body)) (f .body))
+  unfolding judge-kind
+  kind-follows f =
+      follows-then (judge-kind text (f .type) (f .body)) (accepted f) (kind-rules (f .type) (length (f .body)) (f .body)) accept
+      (follows-then _ _ (part (OtherLength (f .type) (length (f .body))) else accept) (part (λ r. (f .type ≡ 0x01) × Text (drop 1 (f .body)) r) else accept)
+      (follows-part _ _ (length-refused (f .type) (length (f .body))))
+      (follows-part _ _ (text-refused (f .type) (f .body))))
+      (follows-accepted f)
+
+abbrev frame-rules : List ℕ → Rules
+frame-rules s =
+    refusal 7 (3 ∷ length s ∷ 0 ∷ []) if length s < 3 else
+    refusal 8 [] if at16 s 0 ≡ 0 else
+    refusal 7 ((3 + at16 s 0) ∷ length s ∷ 0 ∷ []) if length s < 3 + at16 s 0 else
+    accept
+
+frame-follows : (s : List ℕ) → Follows (frame s) (frame-rules s)
+unfolding frame
+frame-follows s =
+    follows-if _ _ (below (length s) 3)
+    (follows-if _ _ (equal (at16 s 0) 0)
+    (follows-if _ _ (below (length s) (3 + at16 s 0))
+    (follows-accepted _)))
+
+module _ (text : List ℕ → Verdict) (Text : List ℕ → Refusal → Type 0) (says : (s : List ℕ) (r : Refusal) → (text s ≡ refused r) ↔ Text s r) where
+  option-follows : (s : List ℕ) → Follows (one-option text s) (option-rules Text s)
+  unfolding one-option
+  option-follows s =
+      follows-bind (frame s) _ (frame-rules s) (kind-rules text Text says (getD s 2 0) (at16 s 0) (take (at16 s 0) (drop 3 s))) (frame-follows s)
+      (λ f e.
+      let (pos, long, same) = frame-is s f e in
+      let full : length (take (at16 s 0) (drop 3 s)) ≡ at16 s 0 = length-take-le (at16 s 0) (drop 3 s) (rw length-drop (omega arith)) in
+      rw (← same) (rw full at (kind-follows text Text says (record { type = getD s 2 0; body = take (at16 s 0) (drop 3 s) }))))
+
+pub read-option-follows : (s : List ℕ) → Follows (read-option s) (option-rules Scanned s)
+read-option-follows s =
+    option-follows scanned Scanned
+    (λ t r. let w = given-refuses _ (read-string t) r in let v = string-refused t r in ((λ e. v .0 (w .0 e)), (λ h. w .1 (v .1 h)))) s
+
+pub unscanned-follows : (s : List ℕ) → Follows (one-option unscanned s) (option-rules Unscanned s)
+unscanned-follows s = option-follows unscanned Unscanned (λ t r. ((λ e. not-refused r tt (sym e)), (λ n. absurd n))) s
+
+-- ---- all options
+
+-- a known kind is permitted
+kind-permitted : (type : ℕ) → Unknown type ⊎ ((g : Settings) (body : List ℕ) → permitted g (kind-of type) body ≡ true)
+unfolding permitted
+kind-permitted type =
+    type-cases type
+    (λ t. inr (λ g body. rw t (ap (λ (q : Row). permitted g (q .kind) body) row-configuration)))
+    (λ t. inr (λ g body. rw t (ap (λ (q : Row). permitted g (q .kind) body) row-load-balancing)))
+    (λ family role t. inr (λ g body. rw t (ap (λ (q : Row). permitted g (q .kind) body) (row-address family role))))
+    (λ u. inl u)
+
+-- neither the bit nor the setting
+lacking : (b : ℕ) (d : Bool) → (not (d || has b 0x80) ≡ true) ↔ ((b / 0x80 % 2 ≡ 0) × (d ≡ false))
+lacking b true = ((λ e. absurd (false≢true e)), (λ w. absurd (true≢false (w .1))))
+lacking b false = (
+  (λ e. (omega (arith, eqb-false (b / 0x80 % 2) 1 (not-true _ e)), refl)),
+  (λ w. ap not (ne-eqb (b / 0x80 % 2) 1 (λ h. omega (arith, w .0)))),
+)
+
+unpermitted : (g : Settings) (type : ℕ) (body : List ℕ)
+    → (not (permitted g (kind-of type) body) ≡ true) ↔ (Unknown type × (getD body 0 0 / 0x80 % 2 ≡ 0) × (g .discard ≡ false))
+unfolding permitted
+unpermitted g type body = (
+  (λ e. ⊎-elim
+      (λ u. let w = lacking (getD body 0 0) (g .discard) .0 (sym (ap not (row-is u)) ∙ e) in (u, w .0, w .1))
+      (λ free. absurd (false≢true (sym (ap not (free g body)) ∙ e)))
+      (kind-permitted type)),
+  (λ w. ap not (row-is (w .0)) ∙ lacking (getD body 0 0) (g .discard) .1 (w .1, w .2)),
+)
+  where
+    row-is : Unknown type → permitted g (kind-of type) body ≡ (g .discard || has (getD body 0 0) 0x80)
+    row-is u = ap (λ (q : Row). permitted g (q .kind) body) (row-unknown type u)
+
+pub permit-follows : (g : Settings) (f : Frame) → Follows (permit g f) (permit-rules g f)
+unfolding permit
+permit-follows g f = follows-if _ _ (unpermitted g (f .type) (f .body)) (follows-accepted tt)
+
+stops-at : (s : List ℕ) (r : Refusal) → (all-options s ≡ refused r) ↔ Stops read-option size s r
+unfolding all-options
+stops-at s r = all-stops read-option size 4 (omega arith) (option-within scanned) s r
+
+pub options-follow : (g : Settings) (s : List ℕ) → Follows (read-options g s) (options-rules g s)
+unfolding read-options
+options-follow g s =
+    follows-bind (all-options s) _ (part (Stops read-option size s) else accept)
+    (part (λ r. (fs : List Frame) × (all-options s ≡ accepted fs) × FirstRefused (permit g) fs r) else accept)
+    (follows-part _ _ (stops-at s))
+    (λ fs e.
+    follows-then (each (permit g) fs) (accepted fs) (part (λ r. (fs : List Frame) × (all-options s ≡ accepted fs) × FirstRefused (permit g) fs r) else accept) accept
+    (follows-part _ _ (λ r. (
+      (λ h. (fs, e, each-refused (permit g) fs r .0 h)),
+      (λ w. each-refused (permit g) fs r .1 (subst (λ (l : List Frame). FirstRefused (permit g) l r) (accepted-inj (w .0) fs (sym (w .1) ∙ e)) (w .2))),
+    )))
+    (follows-accepted fs))
+
+pub index-follows : (s : List ℕ) → Follows (read-index s) (index-rules s)
+unfolding read-index
+index-follows s = follows-if _ _ (below 1388 (length s)) (follows-part _ _ (stops-at s))
+
+-- ---- one entry
+
+type-follows : (type : ℕ) (s : List ℕ) → Follows (by-type type s) (refusal 11 (type ∷ []) if ¬ EntryType type else accept)
+type-follows type s =
+    entry-cases type s (λ a. Follows a (refusal 11 (type ∷ []) if ¬ EntryType type else accept))
+    (λ e. typed _ (inl e))
+    (λ e. typed _ (inr (inl e)))
+    (λ e. typed _ (inr (inr (inl e))))
+    (λ e. typed _ (inr (inr (inr e))))
+    (λ n. follows-refused _ accept (¬ EntryType type) n)
+  where
+    typed : (e : Entry) → EntryType type → Follows (accepted e) (refusal 11 (type ∷ []) if ¬ EntryType type else accept)
+    typed e known = follows-passed _ (¬ EntryType type) (accepted e) accept (λ n. n known) (follows-accepted e)
+
+pub entry-follows : (s : List ℕ) → Follows (read-entry s) (entry-rules s)
+unfolding read-entry
+entry-follows s = follows-if _ _ (below (length s) 16) (type-follows (getD s 0 0) s)
+
+-- the head of an entry that was read
+headed : (type : ℕ) (s : List ℕ) (e : Entry) → by-type type s ≡ accepted e → head-of e ≡ head s
+headed type s e =
+    entry-cases type s (λ a. a ≡ accepted e → head-of e ≡ head s)
+    (λ _ p. same _ p)
+    (λ _ p. same _ p)
+    (λ _ p. same _ p)
+    (λ _ p. same _ p)
+    (λ n p. not-refused _ e p)
+  where
+    same : (x : Entry) → accepted x ≡ accepted e → head-of e ≡ head-of x
+    same x p = ap head-of (sym (accepted-inj x e p))
+
+read-headed : (s : List ℕ) (e : Entry) → read-entry s ≡ accepted e → head-of e ≡ head s
+unfolding read-entry
+read-headed s e h = headed (getD s 0 0) s e (when-accepted _ _ _ e h .1)
+
+abbrev run-rule : (run n start count : ℕ) → Rules
+run-rule run n start count = refusal 12 (run ∷ start ∷ count ∷ n ∷ []) if ¬ RunFits n start count else accept
+
+run-follows : (run n start count : ℕ) → Follows (judge-run run n start count) (run-rule run n start count)
+unfolding judge-run
+run-follows run n start count = follows-if _ _ (lacks _ (run-inside n start count)) (follows-accepted tt)
+
+runs-follow : (n start1 count1 start2 count2 : ℕ) → Follows (judge-runs n start1 count1 start2 count2) (run-rule 1 n start1 count1 then run-rule 2 n start2 count2)
+unfolding judge-runs
+runs-follow n start1 count1 start2 count2 = follows-then _ _ _ _ (run-follows 1 n start1 count1) (run-follows 2 n start2 count2)
+
+pub placed-follows : (n : ℕ) (s : List ℕ) → Follows (placed-entry n s) (placed-rules n s)
+unfolding placed-entry head
+placed-follows n s =
+    follows-bind (read-entry s) _ (entry-rules s) _ (entry-follows s)
+    (λ e h. rw (read-headed s e h) (follows-then _ (accepted e) _ accept (runs-follow n (head s .start1) (head s .count1) (head s .start2) (head s .count2)) (follows-accepted e)))
+
+-- ---- the payload and the message
+
+sizes-follow : (n entries options : ℕ) → Follows (sizes n entries options) (size-rules n entries options)
+unfolding sizes
+sizes-follow n entries options =
+    follows-if _ _ (below n 12)
+    (follows-if _ _ (below 1388 entries)
+    (follows-if _ _ (unequal (entries % 16) 0)
+    (follows-if _ _ (below n (12 + entries))
+    (follows-if _ _ (below 1388 options)
+    (follows-if _ _ (below 1400 (12 + entries + options))
+    (follows-if _ _ (below n (12 + entries + options))
+    (follows-if _ _ (unequal n (12 + entries + options))
+    (follows-accepted tt))))))))
+
+header-follows : (s : List ℕ) → Follows (header s) (header-rules s)
+unfolding header
+header-follows s =
+    follows-if _ _ (below (length s) 16)
+    (follows-if _ _ (unequal (at32 s 0) 0xffff8100)
+    (follows-if _ _ (unequal (at16 s 8) 0)
+    (follows-if _ _ (equal (at16 s 10) 0)
+    (follows-if _ _ (unequal (getD s 13 0) 1)
+    (follows-if _ _ (unequal (getD s 14 0) 0x02)
+    (follows-if _ _ (unequal (getD s 15 0) 0)
+    (follows-accepted tt)))))))
+
+entries-stop : (n : ℕ) (s : List ℕ) (r : Refusal) → (read-entries n s ≡ refused r) ↔ Stops (placed-entry n) sixteen s r
+unfolding read-entries
+entries-stop n s r = all-stops (placed-entry n) sixteen 16 (omega arith) (λ t e h. (omega arith, entry-long n t e h)) s r
+
+pub payload-follows : (g : Settings) (s : List ℕ) → Follows (read-payload g s) (payload-rules g s)
+unfolding read-payload
+payload-follows g s =
+    follows-then _ _ (size-rules (length s) (entries-length s) (options-length s)) _ (sizes-follow _ _ _)
+    (follows-bind (read-options g (options-part s)) _ (options-rules g (options-part s)) (part Entries else accept) (options-follow g (options-part s))
+    (λ fs e.
+    follows-bind (read-entries (length fs) (entries-part s)) _ (part Entries else accept) accept
+    (follows-part Entries _ (λ r.
+    let stop = entries-stop (length fs) (entries-part s) r in
+    let all-read = read-parts g _ fs .0 e .0 in (
+      (λ h. (fs, all-read, stop .0 h)),
+      (λ w. stop .1 (subst (λ (l : List Frame). Stops (placed-entry (length l)) sixteen (entries-part s) r) (accepted-inj (w .0) fs (sym (w .1) ∙ all-read)) (w .2))),
+    )))
+    (λ es h. follows-accepted _)))
+  where
+    Entries : Refusal → Type 0
+    Entries r = (fs : List Frame) × (all-options (options-part s) ≡ accepted fs) × Stops (placed-entry (length fs)) sixteen (entries-part s) r
+
+pub message-follows : (g : Settings) (s : List ℕ) → Follows (read-message g s) (message-rules g s)
+unfolding read-message
+message-follows g s = follows-then (header s) (read-payload g (drop 16 s)) (header-rules s) (payload-rules g (drop 16 s)) (header-follows s) (payload-follows g (drop 16 s))
+
+-- ---- lookup and the cursors
+
+misfit-follows : (m : Answer Frame) (rules : Rules) → Follows m rules → Follows (misfit m) (refusal 21 [] if ¬ Accepts rules else accept)
+unfolding misfit
+misfit-follows (accepted f) rules w = follows-passed _ (¬ Accepts rules) (accepted f) accept (λ n. n (w .accepts .0 (f, refl))) (follows-accepted f)
+misfit-follows (refused q) rules w = follows-refused _ accept (¬ Accepts rules) (λ h. not-refused q (w .accepts .1 h .0) (w .accepts .1 h .1))
+
+pub look-up-follows : (s tab : List ℕ) (count k : ℕ) → Follows (look-up s tab count k) (look-up-rules s tab count k)
+unfolding look-up slots
+look-up-follows s tab count k =
+    follows-if _ _ (at-most count k)
+    (follows-if _ _ (at-most 347 k)
+    (follows-if _ _ (at-most (length tab) k)
+    (misfit-follows _ _ (unscanned-follows (drop (getD tab k 0) s)))))
+
+pub run-cursor-follows : (s tab : List ℕ) (count : ℕ) (c : Run) → Follows (next-of-run s tab count c) (run-rules s tab count c)
+unfolding next-of-run
+run-cursor-follows s tab count c = follows-if _ _ (equal (c .left) 0) (look-up-follows s tab count (c .next))
+
+pub cursor-follows : {A : Type 0} (read : List ℕ → Answer A) (rules : List ℕ → Rules) → ((s : List ℕ) → Follows (read s) (rules s)) → (s : List ℕ) (at : ℕ)
+    → Follows (next-at read s at) (cursor-rules rules s at)
+unfolding next-at
+cursor-follows read rules one s at = follows-if _ _ (at-most (length s) at) (one (drop at s))
+
+lent-follows : {A : Type 0} (tab : List ℕ) (a : Answer A) (rules : Rules) → Follows a rules → Follows (lent tab a) (lent-rules tab rules)
+unfolding lent slots
+lent-follows tab a rules one = follows-if _ _ (below (length tab) 347) one
+
+pub rules-followed : RulesFollowed
+rules-followed = record {
+  string = λ s. follows-part _ _ (string-refused s);
+  option = read-option-follows;
+  unscanned-option = unscanned-follows;
+  permitted = permit-follows;
+  options = options-follow;
+  entry = entry-follows;
+  placed = placed-follows;
+  payload = λ g s tab. lent-follows tab _ _ (payload-follows g s);
+  message = λ g s tab. lent-follows tab _ _ (message-follows g s);
+  index = λ s tab. lent-follows tab _ _ (index-follows s);
+  looked-up = look-up-follows;
+  option-cursor = cursor-follows read-option (option-rules Scanned) read-option-follows;
+  entry-cursor = cursor-follows read-entry entry-rules entry-follows;
+  run-cursor = run-cursor-follows;
+}

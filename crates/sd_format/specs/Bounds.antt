@@ -1,0 +1,54 @@
+-- Computed beside the marked cases: document 01's unmarked cases of service discovery and of configuration strings, and both sides of the lines
+-- of lookup. The marked ones are in specs/Cases.antt. Assumes nothing: these are definitions.
+use Prim.Native.Nat.{ℕ, zero, suc}
+use mathlib.Core.Path.{_≡_}
+use mathlib.Core.Bool.{true}
+use mathlib.Core.List.{List, [], _∷_, _++_}
+use lib.ListN.{length, replicate}
+use Rattle.numbers.specs.Bytes.{be32}
+use Rattle.numbers.specs.Answers.{accepted, given, _gives_with_}
+use Rattle.sd_format.specs.Strings.{read-string}
+use Rattle.sd_format.specs.Frames.{look-up}
+use Rattle.sd_format.specs.Entries.{Entry, offer}
+use Rattle.sd_format.specs.Payload.{handed-out}
+use Rattle.sd_format.specs.Cases.{the-endpoint, payload-of}
+use Rattle.sd_format.specs.Order.{strict, payload, opened, no-entries, kept, no-terminator}
+
+-- n options `00017780`, of four bytes each
+abbrev pub four-byte-options : ℕ → List ℕ
+four-byte-options zero = []
+four-byte-options (suc n) = 0x00 ∷ 0x01 ∷ 0x77 ∷ 0x80 ∷ four-byte-options n
+
+-- the whole payload of the marked cases with a count byte of 0 and run 1 from 200
+abbrev pub no-run : List ℕ
+no-run =
+    (0x80 ∷ 0x00 ∷ 0x00 ∷ 0x00 ∷ be32 16)
+    ++ ((0x01 ∷ 200 ∷ 0x00 ∷ 0x00 ∷ 0x12 ∷ 0x34 ∷ 0x56 ∷ 0x78 ∷ 0x01 ∷ 0x00 ∷ 0x0e ∷ 0x10 ∷ 0x01 ∷ 0x00 ∷ 0x00 ∷ 0x00 ∷ [])
+    ++ (be32 12 ++ (0x00 ∷ 0x09 ∷ 0x04 ∷ 0x00 ∷ 0xc0 ∷ 0xa8 ∷ 0x01 ∷ 0x01 ∷ 0x00 ∷ 0x06 ∷ 0x1f ∷ 0x90 ∷ [])))
+
+abbrev pub offer-without-run : Entry
+offer-without-run =
+    offer (record { start1 = 200; start2 = 0; count1 = 0; count2 = 0; service = 0x1234; instance = 0x5678; major = 1; ttl = 3600 }) 0x01000000
+
+pub record Bounds : Type 0 where
+  -- payloads
+  pub eleven-bytes : payload (replicate 11 0) gives 1 with (12 ∷ [])
+  pub no-entry-there : payload (opened 16 ++ be32 0) gives 1 with (28 ∷ [])
+  pub too-long : payload (opened 16 ++ (replicate 16 0 ++ be32 1388)) gives 5 with (1416 ∷ [])
+  pub zero-count : handed-out strict no-run ≡ accepted (payload-of true (offer-without-run ∷ []) (the-endpoint ∷ []))
+  pub all-slots : given (λ r. length (r .frames)) (payload (no-entries 1388 ++ four-byte-options 347)) ≡ accepted 347
+  -- strings
+  pub trailing : read-string (0x00 ∷ 0x00 ∷ []) gives 9 with (3 ∷ 0 ∷ [])
+  pub spaces : read-string (0x01 ∷ 0x20 ∷ 0x00 ∷ []) gives 9 with (6 ∷ 0 ∷ [])
+  pub bad-byte : read-string (0x02 ∷ 0x41 ∷ 0xff ∷ 0x00 ∷ []) gives 9 with (5 ∷ 0 ∷ 1 ∷ 255 ∷ [])
+  pub long-item : read-string (0x05 ∷ 0x41 ∷ 0x00 ∷ []) gives 9 with (2 ∷ 0 ∷ 5 ∷ 2 ∷ [])
+  pub unterminated : read-string (0x01 ∷ 0x41 ∷ []) gives 9 with (1 ∷ [])
+  -- lookup: the last slot and one past it; the last of the table and one past it; no option at the offset, and an offset past the bytes
+  pub slot-346 : given (λ f. f .type) (look-up (kept 0x77) (replicate 348 0) 348 346) ≡ accepted 0x77
+  pub slot-347 : look-up (kept 0x77) (replicate 348 0) 348 347 gives 21 with []
+  pub last-of-table : given (λ f. f .type) (look-up (kept 0x77) (0 ∷ []) 2 0) ≡ accepted 0x77
+  pub past-the-table : look-up (kept 0x77) (0 ∷ []) 2 1 gives 21 with []
+  pub no-option : look-up (kept 0x77) (1 ∷ []) 1 0 gives 21 with []
+  pub past-the-bytes : look-up (kept 0x77) (5 ∷ []) 1 0 gives 21 with []
+  -- the string is not scanned again
+  pub not-scanned : given (λ f. f .type) (look-up no-terminator (0 ∷ []) 1 0) ≡ accepted 0x01
