@@ -1,7 +1,7 @@
--- Both sides of those lines hold of the definitions, by computation. Assumes nothing.
+-- The unmarked cases of joining and both sides of the other lines hold of the definitions, by computation. Assumes nothing.
 use mathlib.Core.Path.{refl}
 use Rattle.numbers.specs.Bytes.{be16, be32, at16, at32}
-use Rattle.numbers.specs.Answers.{refuse_when_else_}
+use Rattle.numbers.specs.Answers.{refuse_when_else_, given}
 use Rattle.tp_machine.specs.Segments.{tp-type, is-segment, offset, more, payload, without-tp, header, pasted, written}
 use Rattle.tp_machine.specs.Ranges.{any, touch, hull-of, keep, grow, joined, some-touch}
 use Rattle.tp_machine.specs.Machine.{bad-range, bad-state, judged, after, step, begun, begin, fed}
@@ -9,9 +9,23 @@ use Rattle.tp_machine.specs.Taking.{complete, ready, taking}
 use Rattle.tp_machine.specs.Bounds.{Bounds}
 
 pub bounds : Bounds
-unfolding be16 be32 at16 at32 refuse_when_else_ tp-type is-segment offset more payload without-tp header pasted written any touch hull-of keep grow joined some-touch bad-range bad-state judged after step begun begin fed complete ready taking
+unfolding be16 be32 at16 at32 refuse_when_else_ given tp-type is-segment offset more payload without-tp header pasted written any touch hull-of keep grow joined some-touch bad-range bad-state judged after step begun begin fed complete ready taking
 bounds = record {
+  cases = (refl, (refl, (refl, (refl, (refl, (refl, (refl, tt)))))));
   holding = record { filled = refl; full = refl; joins-two = refl };
+  malformed = record {
+    thirty-two = refl;
+    thirty-three = refl;
+    highest-limit = refl;
+    past-highest = refl;
+    end-at-limit = refl;
+    end-past-limit = refl;
+    range-to-limit = refl;
+    range-past-limit = refl;
+    range-backwards = refl;
+    ranges-apart = refl;
+    ranges-touch = refl;
+  };
   highest = (refl, refl);
   too-high = (refl, refl);
   room = refl;
@@ -20,7 +34,6 @@ bounds = record {
   not-given = refl;
   waiting = refl;
   gap = refl;
-  malformed = refl;
   newest = refl;
   no-header = refl;
   header = refl;

@@ -1,4 +1,4 @@
--- Document 01's cases of joining hold of the definitions, by computation. Assumes nothing.
+-- The marked case of joining holds of the definitions, by computation. Assumes nothing.
 use mathlib.Core.Path.{refl}
 use Rattle.numbers.specs.Bytes.{be16, be32, at16, at32}
 use Rattle.numbers.specs.Answers.{refuse_when_else_, given}
@@ -10,4 +10,4 @@ use Rattle.tp_machine.specs.Cases.{Cases}
 
 pub cases : Cases
 unfolding be16 be32 at16 at32 refuse_when_else_ given tp-type is-segment offset more payload without-tp header pasted written any touch hull-of keep grow joined some-touch bad-range bad-state judged after step begun begin fed complete ready taking
-cases = (refl, (refl, (refl, (refl, (refl, (refl, (refl, (refl, (refl, (refl, tt))))))))))
+cases = (refl, tt)

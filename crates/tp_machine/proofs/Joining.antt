@@ -10,6 +10,7 @@ use native.Mathlib.Omega.{arith}
 use borrow.Author.Tests.{leb-true, leb-false, le-leb, lt-leb, ltb-true, ltb-false, lt-ltb, eqb-true, eq-eqb}
 use lib.Dec.{leb, ltb, eqb}
 use Rattle.numbers.specs.Answers.{All}
+use Rattle.numbers.proofs.AnswerLaws.{all-map, all-both}
 use Rattle.tp_machine.specs.declared.TpRange.{TpRange}
 use Rattle.tp_machine.specs.Lists.{Pairwise, Rearranged, nothing, first, swap, next}
 use Rattle.tp_machine.specs.Segments.{offset, end-of}
@@ -17,7 +18,8 @@ use Rattle.tp_machine.specs.Ranges.{any, touch, hull-of, unless, keep, g
 use Rattle.tp_machine.specs.Meaning.{range, range-of, Apart}
 use Rattle.tp_machine.specs.Runs.{around, Lies, holds}
 use Rattle.tp_machine.specs.Theorems.{JoiningCovers, JoiningOrderUnseen}
-use Rattle.tp_machine.proofs.Lists.{or-inv, or-cases, neither, or-swap, and-inv, same-test, all-append, all-map, all-both, any-all, all-any, any-append, any-moved, unmoved, append-moved}
+use Rattle.numbers.proofs.TestLaws.{or-inv, or-cases, neither, or-swap, and-inv, same-test}
+use Rattle.tp_machine.proofs.Lists.{all-append, any-all, all-any, any-append, any-moved, unmoved, append-moved}
 
 -- ---- a property of each range
 module _ (P : TpRange → Type 0) where

@@ -3,9 +3,11 @@ pub mod Bounds
 pub mod Lists
 pub mod Joining
 pub mod Tests
+pub mod RuleLaws
 pub mod Writing
 pub mod Steps
 pub mod Runs
 pub mod Report
+pub mod Unseen
 pub mod Order
 pub mod Theorems

@@ -1,48 +1,17 @@
--- Laws of tests, of what is said of a list's elements, and of lists in another order. Assumes nothing.
+-- Laws of what is said of a list's elements, and of lists in another order. Assumes nothing.
 use Prim.Native.Nat.{ℕ, suc}
 use mathlib.Core.Path.{_≡_, refl, sym, ap, subst, _∙_}
-use mathlib.Core.Bool.{Bool, true, false, _&&_, _||_, cond, true≢false, false≢true}
+use mathlib.Core.Bool.{Bool, true, false, _||_, cond, false≢true}
 use mathlib.Core.List.{List, [], _∷_, _++_}
-use mathlib.Core.Logic.{_⊎_, inl, inr, ⊎-elim, _≢_}
+use mathlib.Core.Logic.{inl, inr, ⊎-elim, _≢_}
 use native.Mathlib.Omega.{arith}
 use lib.ListN.{length}
 use Rattle.numbers.specs.Answers.{All}
+use Rattle.numbers.proofs.AnswerLaws.{all-map}
+use Rattle.numbers.proofs.TestLaws.{neither, or-swap}
+pub use Rattle.numbers.proofs.TestLaws.{or-inv, or-cases, and-inv}
 use Rattle.tp_machine.specs.Ranges.{any}
 use Rattle.tp_machine.specs.Lists.{OneOf, Pairwise, Rearranged, nothing, first, swap, next, Latest}
-
--- ---- tests
-pub or-inv : (a b : Bool) → (a || b) ≡ false → (a ≡ false) × (b ≡ false)
-or-inv true b e = absurd (true≢false e)
-or-inv false b e = (refl, e)
-
-pub or-cases : (a b : Bool) → (a || b) ≡ true → (a ≡ true) ⊎ (b ≡ true)
-or-cases true b e = inl refl
-or-cases false b e = inr e
-
-pub neither : (a b : Bool) → a ≡ false → b ≡ false → (a || b) ≡ false
-neither a b p q = rw (p, q)
-
-pub or-swap : (a b c : Bool) → (a || (b || c)) ≡ (b || (a || c))
-or-swap true true c = refl
-or-swap true false c = refl
-or-swap false b c = refl
-
-pub and-inv : (a b : Bool) → (a && b) ≡ true → (a ≡ true) × (b ≡ true)
-and-inv true b e = (refl, e)
-and-inv false b e = absurd (false≢true e)
-
-pub and-fails : (a b : Bool) → (a && b) ≡ false → a ≡ true → b ≡ false
-and-fails true b e h = e
-and-fails false b e h = absurd (false≢true h)
-
-pub not-both : (a b : Bool) → (a ≡ true → b ≡ false) → (a && b) ≡ false
-not-both true b f = f refl
-not-both false b f = refl
-
-pub same-test : (a b : Bool) → (a ≡ true → b ≡ true) → (b ≡ true → a ≡ true) → a ≡ b
-same-test true b f g = sym (f refl)
-same-test false true f g = g refl
-same-test false false f g = refl
 
 -- ---- each element
 module _ {A : Type 0} (P : A → Type 0) where
@@ -55,14 +24,6 @@ module _ {A : Type 0} (P : A → Type 0) where
   all-moved (first r) e = (e .0, all-moved r (e .1))
   all-moved swap e = (e .1 .0, (e .0, e .1 .1))
   all-moved (next r s) e = all-moved s (all-moved r e)
-
-  pub all-map : (Q : A → Type 0) → ((x : A) → P x → Q x) → (xs : List A) → All P xs → All Q xs
-  all-map Q f [] e = tt
-  all-map Q f (x ∷ xs) e = (f x (e .0), all-map Q f xs (e .1))
-
-  pub all-both : (Q : A → Type 0) (xs : List A) → All P xs → All Q xs → All (λ x. P x × Q x) xs
-  all-both Q [] e f = tt
-  all-both Q (x ∷ xs) e f = ((e .0, f .0), all-both Q xs (e .1) (f .1))
 
 -- ---- one element
 module _ {A : Type 0} (f : A → Bool) where

@@ -1,110 +1,25 @@
--- The order of the ranges is not seen: states with the same ranges answer alike, and come to states with the same ranges. Assumes nothing.
-use Prim.Native.Nat.{ℕ, _≤_}
-use mathlib.Core.Path.{_≡_, refl, sym, ap, subst, _∙_}
-use mathlib.Core.Bool.{Bool, true, false, not, and-false}
-use mathlib.Core.List.{List, [], _∷_}
-use mathlib.Core.Logic.{⊎-elim, _≢_}
-use native.Mathlib.Omega.{arith}
-use lib.ListN.{length}
-use Rattle.numbers.specs.Refusals.{malformed-state, not-complete}
-use Rattle.numbers.specs.Answers.{accepted, refused, Verdict, refuse_when_else_, All}
-use Rattle.tp_machine.specs.declared.TpRange.{TpRange}
-use Rattle.tp_machine.specs.declared.TpEnd.{TpEnd}
-use Rattle.tp_machine.specs.Lists.{Pairwise, Rearranged}
-use Rattle.tp_machine.specs.Machine.{State, bad-range, bad-state, taken, judged, after, step, fed, clear}
-use Rattle.tp_machine.specs.Taking.{is-known, whole, complete, ready, taking}
-use Rattle.tp_machine.specs.Meaning.{range, range-of, Apart, Fine, Good}
-use Rattle.tp_machine.specs.Runs.{Same, Alike}
-use Rattle.tp_machine.specs.Theorems.{SetIsOrder, Unseen, OrderUnseen, RunsAlike}
-use Rattle.tp_machine.proofs.Lists.{same-test, all-map, same-elements, any-moved, moved-back, length-moved, one-moved}
-use Rattle.tp_machine.proofs.Joining.{joining-order-unseen, touch-moved}
-use Rattle.tp_machine.proofs.Tests.{whole-means}
+-- The order of refusals holds of the definitions, by computation. Assumes nothing.
+use mathlib.Core.Path.{refl}
+use Rattle.numbers.specs.Bytes.{be16, be32, at16, at32}
+use Rattle.numbers.specs.Answers.{refuse_when_else_, given}
+use Rattle.tp_machine.specs.Segments.{tp-type, is-segment, offset, more, payload, without-tp, header, pasted, written}
+use Rattle.tp_machine.specs.Ranges.{any, touch, hull-of, keep, grow, joined, some-touch}
+use Rattle.tp_machine.specs.Machine.{bad-range, bad-state, judged, after, step, begun, begin, fed}
+use Rattle.tp_machine.specs.Taking.{complete, ready, taking}
+use Rattle.tp_machine.specs.Order.{Order}
 
--- ---- the set
-distinct : (rs : List TpRange) → All (λ r. r .start ≤ r .end) rs → Pairwise Apart rs → Pairwise _≢_ rs
-distinct [] f a = tt
-distinct (r ∷ rs) f a = (all-map (Apart r) (_≢_ r) (λ x h e. ⊎-elim (λ l. absurd (omega (arith, ap (λ (t : TpRange). t .start) e))) (λ l. absurd (omega (arith, ap (λ (t : TpRange). t .end) e))) h) rs (a .0), distinct rs (f .1) (a .1))
-
-pub set-is-order : SetIsOrder
-set-is-order p q g h s = same-elements (p .ranges) (q .ranges) (well p g) (well q h) (s .there) (s .back)
-  where
-    well : (x : State) → Good x → Pairwise _≢_ (x .ranges)
-    well x k = distinct (x .ranges) (all-map (Fine x) (λ r. r .start ≤ r .end) (λ r f. f .forth) (x .ranges) (k .each)) (k .apart)
-
--- ---- the order
-
--- a list that is whole has no other order
-whole-one : {rs qs : List TpRange} → Rearranged rs qs → whole rs ≡ true → rs ≡ qs
-whole-one {rs} {qs} r e = let w = whole-means rs e in w .1 ∙ sym (one-moved r (range 0 (w .0)) (w .1))
-
-whole-moved : {rs qs : List TpRange} → Rearranged rs qs → whole rs ≡ whole qs
-whole-moved {rs} {qs} r = same-test (whole rs) (whole qs) (λ e. sym (ap whole (whole-one r e)) ∙ e) (λ e. sym (ap whole (whole-one (moved-back r) e)) ∙ e)
-
--- 38 or 37 where a state is not complete
-ready-none : (p : State) (room : ℕ) → complete p ≡ false → ready p room ≡ (refuse malformed-state when bad-state p else refused not-complete)
-unfolding ready refuse_when_else_
-ready-none p room e = rw e
-
-abbrev state : ℕ → TpEnd → List TpRange → State
-state limit end rs = record { limit = limit; ranges = rs; end = end }
-
-module _ (limit : ℕ) (end : TpEnd) (rs qs : List TpRange) (r : Rearranged rs qs) where
-  p : State
-  p = state limit end rs
-
-  q : State
-  q = state limit end qs
-
-  bad-moved : bad-state p ≡ bad-state q
-  unfolding p q bad-state bad-range
-  bad-moved = rw (length-moved r, any-moved (bad-range p) r, touch-moved r)
-
-  same-after : (seg : List ℕ) → Same (taken p seg) (taken q seg)
-  unfolding p q
-  same-after seg = record { limit = refl; ranges = joining-order-unseen (range-of seg) rs qs r; end = refl }
-
-  judged-moved : (seg : List ℕ) (room : ℕ) → judged p seg room ≡ judged q seg room
-  unfolding p q judged
-  judged-moved seg room = rw (bad-moved, length-moved (joining-order-unseen (range-of seg) rs qs r))
-
-  step-moved : (seg buf : List ℕ) → Alike (step p seg buf) (step q seg buf)
-  unfolding p q step after
-  step-moved seg buf = rw (judged-moved seg (length buf)) (go (judged q seg (length buf)))
-    where
-      go : (v : Verdict) → Alike (after v p seg buf) (after v q seg buf)
-      go (accepted u) = record { answer = refl; state = same-after seg; buffer = refl }
-      go (refused x) = record { answer = refl; state = record { limit = refl; ranges = r; end = refl }; buffer = refl }
-
-  complete-moved : complete p ≡ complete q
-  unfolding p q complete
-  complete-moved = rw (bad-moved, whole-moved r)
-
-  not-whole : whole rs ≡ false → complete p ≡ false
-  unfolding p complete
-  not-whole e = rw (e, and-false (is-known end)) (and-false (not (bad-state p)))
-
-  ready-moved : (room : ℕ) → ready p room ≡ ready q room
-  unfolding p q
-  ready-moved room = go (whole rs) refl
-    where
-      go : (t : Bool) → whole rs ≡ t → ready p room ≡ ready q room
-      go true e = ap (λ (l : List TpRange). ready (state limit end l) room) (whole-one r e)
-      go false e = ready-none p room (not-whole e) ∙ ap (λ (b : Bool). refuse malformed-state when b else refused not-complete) bad-moved ∙ sym (ready-none q room (sym complete-moved ∙ not-whole e))
-
-  taking-moved : (buf : List ℕ) → taking p buf ≡ taking q buf
-  unfolding taking
-  taking-moved buf = rw (ready-moved (length buf))
-
-  unseen : Unseen p q
-  unfolding p q clear
-  unseen = record { malformed = bad-moved; step-alike = step-moved; complete-alike = complete-moved; taking-alike = taking-moved; clear-alike = refl }
-
-pub order-unseen : OrderUnseen
-unfolding p q
-order-unseen p q s = subst (Unseen p) (rw (s .limit, s .end)) (unseen (p .limit) (p .end) (p .ranges) (q .ranges) (s .ranges))
-
-pub runs-alike : RunsAlike
-unfolding fed
-runs-alike x y a [] = a
-runs-alike x y a (s ∷ ss) =
-    runs-alike (step (x .state) s (x .buffer)) (step (y .state) s (y .buffer)) (rw (a .buffer) (order-unseen (x .state) (y .state) (a .state) .step-alike s (y .buffer))) ss
+pub order : Order
+unfolding be16 be32 at16 at32 refuse_when_else_ given tp-type is-segment offset more payload without-tp header pasted written any touch hull-of keep grow joined some-touch bad-range bad-state judged after step begun begin fed complete ready taking
+order = record {
+  segment = record {
+    38-before-30 = refl;
+    30-before-31 = refl;
+    31-before-32 = refl;
+    32-before-33 = refl;
+    33-before-34 = refl;
+    34-before-35 = refl;
+    35-last = refl;
+  };
+  taken = record { 38-before-37 = refl; 37-before-34 = refl; 34-last = refl };
+  begins = refl;
+}

@@ -1,5 +1,5 @@
 -- A complete stream's report is its header with the length field, and the newest bytes. Assumes nothing.
-use Prim.Native.Nat.{ℕ, _+_, _-_, _≤_, _<_}
+use Prim.Native.Nat.{ℕ, _+_, _≤_, _<_}
 use mathlib.Core.Path.{_≡_, refl, sym, ap, subst, _∙_}
 use mathlib.Core.Bool.{Bool, true, false, _||_, not, or-false}
 use mathlib.Core.List.{List, [], _∷_, _++_}
@@ -11,7 +11,7 @@ use lib.Seq.{length-take-le, getD-take, getD-drop, ext-getD}
 use Rattle.numbers.specs.Bytes.{be16, be32}
 use Rattle.numbers.specs.Refusals.{buffer-too-short, not-complete, malformed-state}
 use Rattle.numbers.specs.Answers.{accepted, given, All}
-use Rattle.numbers.proofs.AnswerLaws.{when-pass}
+use Rattle.numbers.proofs.AnswerLaws.{when-pass, all-map}
 use Rattle.tp_machine.specs.declared.TpRange.{TpRange}
 use Rattle.tp_machine.specs.Lists.{Latest}
 use Rattle.tp_machine.specs.Segments.{end-of, header, pasted}
@@ -21,7 +21,7 @@ use Rattle.tp_machine.specs.Taking.{complete, end-held, ready, finished,
 use Rattle.tp_machine.specs.Meaning.{range, Complete}
 use Rattle.tp_machine.specs.Runs.{admitted, covered, spans, heads, Filled, Reported}
 use Rattle.tp_machine.specs.Theorems.{Given, EveryReport}
-use Rattle.tp_machine.proofs.Lists.{all-map, latest-of, all-latest}
+use Rattle.tp_machine.proofs.Lists.{latest-of, all-latest}
 use Rattle.tp_machine.proofs.Joining.{at-zero, is-held}
 use Rattle.tp_machine.proofs.Tests.{good-means, complete-means}
 use Rattle.tp_machine.proofs.Writing.{take-more-pasted, header-length}

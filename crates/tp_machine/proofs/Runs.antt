@@ -9,6 +9,7 @@ use borrow.Author.Tests.{leb-true, leb-false}
 use lib.Dec.{leb}
 use lib.ListN.{length, getD}
 use Rattle.numbers.specs.Answers.{accepted, refused, Verdict, pass, All}
+use Rattle.numbers.proofs.AnswerLaws.{all-map}
 use Rattle.tp_machine.specs.declared.TpRange.{TpRange}
 use Rattle.tp_machine.specs.declared.TpEnd.{TpEnd}
 use Rattle.tp_machine.specs.declared.TpEnd.the-variants.{Unknown, Known}
@@ -19,7 +20,8 @@ use Rattle.tp_machine.specs.Machine.{State, taken, judged, Out, begin, o
 use Rattle.tp_machine.specs.Meaning.{range-of, Good, Accepted}
 use Rattle.tp_machine.specs.Runs.{Has, Made, Lies, if-accepted, admitted, holds, covered, spans, brought, heads, final, Ended, Filled}
 use Rattle.tp_machine.specs.Theorems.{EveryRun}
-use Rattle.tp_machine.proofs.Lists.{or-swap, all-map, each-one, latest-of, newest, newest-none, newest-latest}
+use Rattle.numbers.proofs.TestLaws.{or-swap}
+use Rattle.tp_machine.proofs.Lists.{each-one, latest-of, newest, newest-none, newest-latest}
 use Rattle.tp_machine.proofs.Joining.{all-joined, new-lies, still-lies, joining-covers, at-zero, joined-at-zero}
 use Rattle.tp_machine.proofs.Tests.{accepted-means, taken-good}
 use Rattle.tp_machine.proofs.Steps.{step-accepted, step-refused, begin-good}

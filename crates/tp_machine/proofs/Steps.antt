@@ -4,21 +4,22 @@
 use Prim.Native.Nat.{ℕ, _≤_}
 use mathlib.Core.Path.{_≡_, refl, sym, ap, _∙_}
 use mathlib.Core.Bool.{Bool, true, false}
-use mathlib.Core.List.{List}
+use mathlib.Core.List.{List, [], _∷_}
 use native.Mathlib.Omega.{arith}
-use borrow.Author.Tests.{ltb-false}
+use borrow.Author.Tests.{ltb-false, lt-ltb, le-ltb, not-false}
 use lib.Dec.{ltb}
 use lib.ListN.{length}
 use Rattle.numbers.specs.Refusals.{Refusal}
-use Rattle.numbers.specs.Answers.{accepted, refused, Verdict, pass}
-use Rattle.numbers.proofs.AnswerLaws.{not-refused}
+use Rattle.numbers.specs.Answers.{Answer, accepted, refused, Verdict, pass, given}
+use Rattle.numbers.proofs.AnswerLaws.{not-refused, accepted-inj, when-accepted}
 use Rattle.tp_machine.specs.Segments.{written}
 use Rattle.tp_machine.specs.Machine.{highest, State, fresh, taken, judged, after, step, begin, clear}
-use Rattle.tp_machine.specs.Meaning.{range-of, Good}
+use Rattle.tp_machine.specs.Taking.{complete, end-held, ready, finished, report, taking}
+use Rattle.tp_machine.specs.Meaning.{range, range-of, Good}
 use Rattle.tp_machine.specs.Runs.{begins, comes, clears}
-use Rattle.tp_machine.specs.Theorems.{Stepped, EveryStep, BytesUnseen, RangesDepend, NeverMalformed}
+use Rattle.tp_machine.specs.Theorems.{Stepped, EveryStep, TakenFrom, EveryTaking, Empties, BytesUnseen, RangesDepend, NeverMalformed}
 use Rattle.tp_machine.proofs.Joining.{joining-order-unseen}
-use Rattle.tp_machine.proofs.Tests.{accepted-means, taken-good}
+use Rattle.tp_machine.proofs.Tests.{accepted-means, complete-means, taken-good}
 
 -- ---- one call
 pub every-step : EveryStep
@@ -50,6 +51,40 @@ step-accepted p seg buf u e = rw e
 pub step-refused : (p : State) (seg buf : List ℕ) (r : Refusal) → judged p seg (length buf) ≡ refused r → step p seg buf ≡ record { answer = refused r; state = p; buffer = buf }
 unfolding step after
 step-refused p seg buf r e = rw e
+
+-- ---- taking
+
+-- the range of a stream that is ready
+ready-range : (p : State) (room e : ℕ) → ready p room ≡ accepted e → p .ranges ≡ range 0 e ∷ []
+unfolding ready
+ready-range p room e h =
+    let (a, k) = when-accepted _ _ _ e h in
+    let (b, l) = when-accepted _ _ _ e k in
+    let (c, m) = when-accepted _ _ _ e l in
+    let w = complete-means p .0 (not-false (complete p) b) in
+    let held : end-held (p .ranges) ≡ w .held = ap end-held (w .one-range) in
+    w .one-range ∙ ap (λ (x : ℕ). range 0 x ∷ []) (sym held ∙ accepted-inj _ e m)
+
+pub every-taking : EveryTaking
+unfolding taking given
+every-taking p buf = go (ready p (length buf)) refl
+  where
+    go : (a : Answer ℕ) → ready p (length buf) ≡ a → TakenFrom p buf (record { answer = a; buffer = finished a buf; part = report a (finished a buf) })
+    go (accepted e) h = record {
+      answer = sym h;
+      accepts = λ x q. let same : e ≡ x = accepted-inj e x q in rw (← same) (ready-range p (length buf) e h, refl, refl);
+      refuses = λ r q. not-refused r e (sym q);
+    }
+    go (refused r) h = record { answer = sym h; accepts = λ x q. not-refused r x q; refuses = λ _ _. (refl, refl) }
+
+-- ---- a stream that is begun or cleared holds nothing
+pub empties : Empties
+unfolding begin clear
+empties = record {
+  begins = λ limit h. record { limit-is = rw (le-ltb highest limit h); no-range = refl; no-end = refl };
+  refuses = λ limit h. record { limit-is = rw (lt-ltb highest limit h); no-range = refl; no-end = refl };
+  clears = λ p. record { limit-is = refl; no-range = refl; no-end = refl };
+}
 
 -- ---- no malformed state is come to
 fresh-good : (limit : ℕ) → limit ≤ highest → Good (fresh limit)

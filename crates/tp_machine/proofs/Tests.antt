@@ -4,14 +4,14 @@ use Prim.Native.Nat.{ℕ, _+_, _-_, _%_, _≤_}
 use mathlib.Core.Path.{_≡_, refl, sym, ap, _∙_}
 use mathlib.Core.Bool.{Bool, true, false, not, cond, or-false, or-true, false≢true}
 use mathlib.Core.List.{List, [], _∷_}
-use mathlib.Core.Logic.{_⊎_, inl, inr, ⊎-elim, _↔_}
+use mathlib.Core.Logic.{inl, inr, ⊎-elim, _↔_}
 use native.Mathlib.Omega.{arith}
 use borrow.Author.Tests.{ltb-false, le-ltb, eqb-true, eq-eqb, not-true, not-false}
 use lib.Dec.{ltb, eqb}
 use lib.ListN.{length, getD}
 use Rattle.numbers.specs.Bytes.{at32}
 use Rattle.numbers.specs.Refusals.{not-a-segment, segment-too-big, unaligned, conflicting-end, buffer-too-short, ranges-full, malformed-state}
-use Rattle.numbers.proofs.AnswerLaws.{when-accepted, when-pass}
+use Rattle.numbers.proofs.AnswerLaws.{when-accepted, when-pass, all-map}
 use Rattle.tp_machine.specs.declared.TpRange.{TpRange}
 use Rattle.tp_machine.specs.declared.TpEnd.{TpEnd}
 use Rattle.tp_machine.specs.declared.TpEnd.the-variants.{Unknown, Known}
@@ -22,7 +22,8 @@ use Rattle.tp_machine.specs.Machine.{most, highest, State, bad-range, en
 use Rattle.tp_machine.specs.Taking.{is-known, whole, complete}
 use Rattle.tp_machine.specs.Meaning.{types, range, range-of, Fine, Within, Good, Agrees, Accepted}
 use Rattle.tp_machine.specs.Theorems.{SegmentMeans, GoodMeans, AcceptedMeans, CompleteMeans}
-use Rattle.tp_machine.proofs.Lists.{or-inv, or-cases, neither, and-inv, and-fails, not-both, all-map, any-all, all-any}
+use Rattle.numbers.proofs.TestLaws.{or-inv, or-cases, neither, and-inv, and-fails, not-both}
+use Rattle.tp_machine.proofs.Lists.{any-all, all-any}
 use Rattle.tp_machine.proofs.Joining.{all-joined, all-apart, joined-apart}
 
 -- ---- 30

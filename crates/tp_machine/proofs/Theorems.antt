@@ -1,12 +1,16 @@
 -- All that is shown of the machine, each from the file that proves it. Assumes nothing.
 use Rattle.tp_machine.specs.Theorems.{Theorems}
 use Rattle.tp_machine.proofs.Tests.{segment-means, good-means, accepted-means, complete-means}
+use Rattle.tp_machine.proofs.RuleLaws.{rules-followed}
 use Rattle.tp_machine.proofs.Writing.{header-means}
-use Rattle.tp_machine.proofs.Steps.{every-step, bytes-unseen, ranges-depend, never-malformed}
+use Rattle.tp_machine.proofs.Steps.{every-step, every-taking, empties, bytes-unseen, ranges-depend, never-malformed}
 use Rattle.tp_machine.proofs.Joining.{joining-covers, joining-order-unseen}
 use Rattle.tp_machine.proofs.Runs.{every-run}
 use Rattle.tp_machine.proofs.Report.{every-report}
-use Rattle.tp_machine.proofs.Order.{set-is-order, order-unseen, runs-alike}
+use Rattle.tp_machine.proofs.Unseen.{set-is-order, order-unseen, runs-alike}
+use Rattle.tp_machine.proofs.Order.{order}
+use Rattle.tp_machine.proofs.Cases.{cases}
+use Rattle.tp_machine.proofs.Bounds.{bounds}
 
 pub theorems : Theorems
 theorems = record {
@@ -15,7 +19,11 @@ theorems = record {
   good-means = good-means;
   accepted-means = accepted-means;
   complete-means = complete-means;
+  rules-followed = rules-followed;
+  order = order;
+  empties = empties;
   every-step = every-step;
+  every-taking = every-taking;
   bytes-unseen = bytes-unseen;
   joining-covers = joining-covers;
   joining-order-unseen = joining-order-unseen;
@@ -26,4 +34,6 @@ theorems = record {
   set-is-order = set-is-order;
   order-unseen = order-unseen;
   runs-alike = runs-alike;
+  cases = cases;
+  bounds = bounds;
 }

@@ -1,15 +1,40 @@
--- Both sides of the lines that document 01's own cases of joining leave open: how many ranges are held, the highest limit, the buffer's length,
--- and which bytes a segment writes. Assumes nothing: these are definitions.
-use Prim.Native.Nat.{ℕ, _+_}
+-- Computed beside the marked case: document 01's unmarked cases of joining, and both sides of the lines that its cases leave open: how many ranges
+-- are held, the highest limit, the buffer's length, each rule of 38, and which bytes a segment writes. The marked case is in specs/Cases.antt.
+-- Assumes nothing: these are definitions.
+use Prim.Native.Nat.{ℕ, zero, suc, _+_, _*_}
 use mathlib.Core.Path.{_≡_}
-use mathlib.Core.Bool.{false}
+use mathlib.Core.Bool.{true, false}
 use mathlib.Core.List.{List, [], _∷_, _++_}
 use lib.ListN.{length, take, drop, replicate}
-use Rattle.numbers.specs.Refusals.{buffer-too-short, ranges-full, limit-too-large, not-complete, malformed-state}
+use Rattle.numbers.specs.Refusals.{refusal}
 use Rattle.numbers.specs.Answers.{accepted, refused, pass}
-use Rattle.tp_machine.specs.Machine.{fresh, Out, step, begun, begin, opened, fed}
+use Rattle.tp_machine.specs.declared.TpRange.{TpRange}
+use Rattle.tp_machine.specs.declared.TpEnd.{TpEnd}
+use Rattle.tp_machine.specs.declared.TpEnd.the-variants.{Unknown, Known}
+use Rattle.tp_machine.specs.Machine.{State, fresh, Out, bad-state, step, begun, begin, opened, fed}
 use Rattle.tp_machine.specs.Taking.{complete, taking}
-use Rattle.tp_machine.specs.Cases.{_more-at_, _final-at_, apart}
+use Rattle.tp_machine.specs.Meaning.{range}
+use Rattle.tp_machine.specs.Cases.{_more-at_, _final-at_, Case, case, Hold}
+
+-- ---- document 01's unmarked cases
+
+abbrev pub unmarked : List Case
+unmarked =
+    case 64 (15 more-at 0 ∷ []) (refused (refusal 32 (0 ∷ 15 ∷ []))) false 0
+    ∷ case 64 (15 final-at 0 ∷ []) pass true 23
+    ∷ case 64 (16 final-at 0 ∷ 16 final-at 16 ∷ []) (refused (refusal 33 (16 ∷ 32 ∷ []))) true 24
+    ∷ case 64 (16 final-at 0 ∷ 16 more-at 16 ∷ []) (refused (refusal 33 (16 ∷ 32 ∷ []))) true 24
+    ∷ case 64 (0 final-at 0 ∷ []) pass true 8
+    ∷ case 32 (0 final-at 32 ∷ []) pass false 0
+    ∷ case 32 (0 final-at 48 ∷ []) (refused (refusal 31 (48 ∷ 0 ∷ 32 ∷ []))) false 0
+    ∷ []
+
+-- ---- how many ranges are held
+
+-- n segments of 16 bytes, no two of which touch: at 0, 32, 64, ..
+abbrev pub apart : ℕ → List (List ℕ)
+apart zero = []
+apart (suc n) = 16 more-at (n * 32) ∷ apart n
 
 -- a fresh stream of limit 2,112 over a buffer of nines, after segments
 abbrev pub after-all : List (List ℕ) → Out
@@ -18,23 +43,46 @@ after-all ss = fed (opened 2112 (replicate 2128 9)) ss
 -- so many ranges are held, and no more; one that joins two is accepted all the same
 pub record Holding (n : ℕ) : Type 0 where
   pub filled : length (after-all (apart n) .state .ranges) ≡ n
-  pub full : after-all (apart (1 + n)) .answer ≡ refused ranges-full
+  pub full : after-all (apart (1 + n)) .answer ≡ refused (refusal 35 [])
   pub joins-two : after-all (apart n ++ ((16 more-at 16) ∷ [])) .answer ≡ pass
 
+-- ---- 38: n ranges of no byte, apart; and states that hold these ranges
+
+abbrev pub spread : ℕ → List TpRange
+spread zero = []
+spread (suc n) = range n n ∷ spread n
+
+abbrev pub holding-these : (limit : ℕ) → List TpRange → TpEnd → State
+holding-these limit rs end = record { limit = limit; ranges = rs; end = end }
+
+pub record Malformed : Type 0 where
+  pub thirty-two : bad-state (holding-these 64 (spread 32) Unknown) ≡ false
+  pub thirty-three : bad-state (holding-these 64 (spread 33) Unknown) ≡ true
+  pub highest-limit : bad-state (fresh 65520) ≡ false
+  pub past-highest : bad-state (fresh 65521) ≡ true
+  pub end-at-limit : bad-state (holding-these 64 [] (Known 64)) ≡ false
+  pub end-past-limit : bad-state (holding-these 64 [] (Known 65)) ≡ true
+  pub range-to-limit : bad-state (holding-these 64 (range 64 64 ∷ []) Unknown) ≡ false
+  pub range-past-limit : bad-state (holding-these 64 (range 64 65 ∷ []) Unknown) ≡ true
+  pub range-backwards : bad-state (holding-these 64 (range 2 1 ∷ []) Unknown) ≡ true
+  pub ranges-apart : bad-state (holding-these 64 (range 0 1 ∷ range 2 3 ∷ []) Unknown) ≡ false
+  pub ranges-touch : bad-state (holding-these 64 (range 0 1 ∷ range 1 2 ∷ []) Unknown) ≡ true
+
 pub record Bounds : Type 0 where
+  pub cases : Hold unmarked
   pub holding : Holding 32
+  pub malformed : Malformed
   -- the highest limit, and one more
   pub highest : (begun 65520 ≡ pass) × (begin 65520 ≡ fresh 65520)
-  pub too-high : (begun 65521 ≡ refused (limit-too-large 65521)) × (begin 65521 ≡ fresh 0)
+  pub too-high : (begun 65521 ≡ refused (refusal 36 (65521 ∷ []))) × (begin 65521 ≡ fresh 0)
   -- a buffer of 16 plus the new end, and one byte less
   pub room : step (fresh 64) (16 more-at 16) (replicate 48 9) .answer ≡ pass
-  pub no-room : step (fresh 64) (16 more-at 16) (replicate 47 9) .answer ≡ refused (buffer-too-short 48)
-  -- taking: with room, one byte less, before the end has come, from a malformed state
+  pub no-room : step (fresh 64) (16 more-at 16) (replicate 47 9) .answer ≡ refused (refusal 34 (48 ∷ []))
+  -- taking: with room, one byte less, before the end has come
   pub given : taking (after-all ((16 final-at 0) ∷ []) .state) (replicate 32 9) .answer ≡ accepted 16
-  pub not-given : taking (after-all ((16 final-at 0) ∷ []) .state) (replicate 31 9) .answer ≡ refused (buffer-too-short 32)
-  pub waiting : taking (after-all ((16 more-at 0) ∷ []) .state) (replicate 32 9) .answer ≡ refused not-complete
+  pub not-given : taking (after-all ((16 final-at 0) ∷ []) .state) (replicate 31 9) .answer ≡ refused (refusal 34 (32 ∷ []))
+  pub waiting : taking (after-all ((16 more-at 0) ∷ []) .state) (replicate 32 9) .answer ≡ refused (refusal 37 [])
   pub gap : complete (after-all ((16 more-at 0) ∷ (16 final-at 32) ∷ []) .state) ≡ false
-  pub malformed : taking (fresh 65521) (replicate 32 9) .answer ≡ refused malformed-state
   -- the newest bytes win: a segment's sevens stand where nines stood, and no byte behind them has changed
   pub newest : drop 16 (after-all ((16 more-at 16) ∷ []) .buffer) ≡ replicate 16 9 ++ (replicate 16 7 ++ replicate 2080 9)
   -- the header comes with an offset of 0 only, without 0x20 in its type

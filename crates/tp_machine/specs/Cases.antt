@@ -1,14 +1,11 @@
--- Document 01's cases of joining ('Both sides of each line'), as one table. The first row is the marked one; the last two are 35 and the slip
--- that 01 names: a gap-filler is accepted where 32 ranges are held.
--- Assumes nothing: these are definitions.
-use Prim.Native.Nat.{ℕ, zero, suc, _+_, _*_}
+-- Document 01's marked case (*) of joining, as a table. Assumes nothing: these are definitions.
+use Prim.Native.Nat.{ℕ, _+_}
 use mathlib.Core.Path.{_≡_}
 use mathlib.Core.Bool.{Bool, true, false, cond}
 use mathlib.Core.List.{List, [], _∷_, _++_}
 use lib.ListN.{replicate}
 use Rattle.numbers.specs.Bytes.{be32, at32}
-use Rattle.numbers.specs.Refusals.{segment-too-big, unaligned, conflicting-end, ranges-full}
-use Rattle.numbers.specs.Answers.{Verdict, pass, refused, All}
+use Rattle.numbers.specs.Answers.{Verdict, pass, All}
 use Rattle.tp_machine.specs.Machine.{Out, opened, fed}
 use Rattle.tp_machine.specs.Taking.{complete, taking}
 
@@ -23,11 +20,6 @@ _more-at_ n offset = segment n true offset
 
 abbrev pub _final-at_ : ℕ → ℕ → List ℕ
 _final-at_ n offset = segment n false offset
-
--- n segments of 16 bytes, no two of which touch: at 0, 32, 64, ..
-abbrev pub apart : ℕ → List (List ℕ)
-apart zero = []
-apart (suc n) = 16 more-at (n * 32) ∷ apart n
 
 -- what is seen after a case's segments: the last answer, whether the stream is complete, and the report's length field (0 if none is given)
 pub record Seen : Type 0 where
@@ -44,20 +36,6 @@ pub record Case : Type 0 where
 abbrev pub case : ℕ → List (List ℕ) → Verdict → Bool → ℕ → Case
 case limit segments a c n = record { limit = limit; segments = segments; shows = record { answer = a; complete = c; length-field = n } }
 
-abbrev pub table : List Case
-table =
-    case 64 (16 more-at 0 ∷ 16 final-at 16 ∷ []) pass true 40
-    ∷ case 64 (15 more-at 0 ∷ []) (refused (unaligned 0 15)) false 0
-    ∷ case 64 (15 final-at 0 ∷ []) pass true 23
-    ∷ case 64 (16 final-at 0 ∷ 16 final-at 16 ∷ []) (refused (conflicting-end 16 32)) true 24
-    ∷ case 64 (16 final-at 0 ∷ 16 more-at 16 ∷ []) (refused (conflicting-end 16 32)) true 24
-    ∷ case 64 (0 final-at 0 ∷ []) pass true 8
-    ∷ case 32 (0 final-at 32 ∷ []) pass false 0
-    ∷ case 32 (0 final-at 48 ∷ []) (refused (segment-too-big 48 0 32)) false 0
-    ∷ case 2048 (apart 32 ++ (16 more-at 1024 ∷ [])) (refused ranges-full) false 0
-    ∷ case 2048 (apart 32 ++ (16 more-at 16 ∷ [])) pass false 0
-    ∷ []
-
 -- a fresh stream over a buffer of zeros, after the case's segments
 abbrev pub run : Case → Out
 run c = fed (opened (c .limit) (replicate (16 + c .limit) 0)) (c .segments)
@@ -65,5 +43,12 @@ run c = fed (opened (c .limit) (replicate (16 + c .limit) 0)) (c .segments)
 abbrev pub seen : Out → Seen
 seen o = record { answer = o .answer; complete = complete (o .state); length-field = at32 (taking (o .state) (o .buffer) .part) 4 }
 
+abbrev pub Hold : List Case → Type 0
+Hold = All (λ c. seen (run c) ≡ c .shows)
+
+-- 16 more at 0, 16 final at 16: complete, length field 40
+abbrev pub table : List Case
+table = case 64 (16 more-at 0 ∷ 16 final-at 16 ∷ []) pass true 40 ∷ []
+
 abbrev pub Cases : Type 0
-Cases = All (λ c. seen (run c) ≡ c .shows) table
+Cases = Hold table

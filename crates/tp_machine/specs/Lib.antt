@@ -2,9 +2,11 @@ pub mod Segments
 pub mod Ranges
 pub mod Machine
 pub mod Taking
-pub mod Cases
-pub mod Bounds
 pub mod Lists
 pub mod Meaning
+pub mod Rules
 pub mod Runs
+pub mod Cases
+pub mod Bounds
+pub mod Order
 pub mod Theorems

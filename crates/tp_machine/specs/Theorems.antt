@@ -1,21 +1,27 @@
 -- What is shown of the machine: each a statement, and all of them together at the end. Assumes nothing: these are definitions.
-use Prim.Native.Nat.{ℕ, _+_, _≤_}
+use Prim.Native.Nat.{ℕ, _+_, _≤_, _<_}
 use mathlib.Core.Path.{_≡_}
 use mathlib.Core.Bool.{true, false, _||_}
 use mathlib.Core.List.{List, [], _∷_}
 use mathlib.Core.Logic.{_↔_}
-use lib.ListN.{length, getD}
+use lib.ListN.{length, take, getD}
 use Rattle.numbers.specs.Bytes.{be32}
 use Rattle.numbers.specs.Refusals.{Refusal}
 use Rattle.numbers.specs.Answers.{accepted, refused, pass, All}
+use Rattle.numbers.specs.Rules.{Follows}
 use Rattle.tp_machine.specs.declared.TpRange.{TpRange}
+use Rattle.tp_machine.specs.declared.TpEnd.the-variants.{Unknown}
 use Rattle.tp_machine.specs.Lists.{Rearranged, Latest}
 use Rattle.tp_machine.specs.Segments.{is-segment, header, pasted, written}
 use Rattle.tp_machine.specs.Ranges.{any, joined}
-use Rattle.tp_machine.specs.Machine.{State, Out, bad-state, taken, judged, step, begin, opened, fed, clear}
-use Rattle.tp_machine.specs.Taking.{complete, taking}
+use Rattle.tp_machine.specs.Machine.{State, Out, bad-state, taken, judged, step, begun, begin, opened, fed, clear}
+use Rattle.tp_machine.specs.Taking.{complete, ready, Taken, taking}
 use Rattle.tp_machine.specs.Meaning.{Segment, HeaderOf, range, Good, Accepted, Complete}
+use Rattle.tp_machine.specs.Rules.{begin-rules, segment-rules, taking-rules}
 use Rattle.tp_machine.specs.Runs.{Reached, admitted, holds, covered, spans, brought, Made, Lies, Ended, Filled, Reported, SameSet, Same, Alike}
+use Rattle.tp_machine.specs.Cases.{Cases}
+use Rattle.tp_machine.specs.Bounds.{Bounds}
+use Rattle.tp_machine.specs.Order.{Order}
 
 -- ---- the tests mean what document 01 says, both ways
 abbrev pub SegmentMeans : Type 0
@@ -33,6 +39,23 @@ AcceptedMeans = (p : State) (seg : List ℕ) (room : ℕ) → (judged p seg room
 abbrev pub CompleteMeans : Type 0
 CompleteMeans = (p : State) → (complete p ≡ true) ↔ Complete p
 
+-- ---- the first refusal, with its values: each call is refused exactly as the rules say, and accepted exactly where they accept
+pub record RulesFollowed : Type 0 where
+  pub begins : (limit : ℕ) → Follows (begun limit) (begin-rules limit)
+  pub segment : (p : State) (seg : List ℕ) (room : ℕ) → Follows (judged p seg room) (segment-rules p seg room)
+  pub taken : (p : State) (room : ℕ) → Follows (ready p room) (taking-rules p room)
+
+-- ---- a stream that is begun or cleared holds nothing: with 36 its limit is 0, and clearing keeps the limit
+pub record Empty (limit : ℕ) (p : State) : Type 0 where
+  pub limit-is : p .limit ≡ limit
+  pub no-range : p .ranges ≡ []
+  pub no-end : p .end ≡ Unknown
+
+pub record Empties : Type 0 where
+  pub begins : (limit : ℕ) → limit ≤ 65520 → Empty limit (begin limit)
+  pub refuses : (limit : ℕ) → 65520 < limit → Empty 0 (begin limit)
+  pub clears : (p : State) → Empty (p .limit) (clear p)
+
 -- ---- one call: its answer is the first refusal or none; what an accepted segment leaves, and that a refusal leaves state and buffer as they were
 pub record Stepped (p : State) (seg buf : List ℕ) (o : Out) : Type 0 where
   pub answer : o .answer ≡ judged p seg (length buf)
@@ -41,6 +64,16 @@ pub record Stepped (p : State) (seg buf : List ℕ) (o : Out) : Type 0 where
 
 abbrev pub EveryStep : Type 0
 EveryStep = (p : State) (seg buf : List ℕ) → Stepped p seg buf (step p seg buf)
+
+-- the report is taken: bytes 4 to 7 become the end plus 8, and the first 16 plus that end bytes come back; a refusal leaves the buffer as it was
+-- and hands back an empty part
+pub record TakenFrom (p : State) (buf : List ℕ) (t : Taken) : Type 0 where
+  pub answer : t .answer ≡ ready p (length buf)
+  pub accepts : (e : ℕ) → t .answer ≡ accepted e → (p .ranges ≡ range 0 e ∷ []) × (t .buffer ≡ pasted buf 4 (be32 (e + 8))) × (t .part ≡ take (16 + e) (t .buffer))
+  pub refuses : (r : Refusal) → t .answer ≡ refused r → (t .buffer ≡ buf) × (t .part ≡ [])
+
+abbrev pub EveryTaking : Type 0
+EveryTaking = (p : State) (buf : List ℕ) → TakenFrom p buf (taking p buf)
 
 -- the bytes of the buffer are not seen, only how many they are
 abbrev pub BytesUnseen : Type 0
@@ -114,7 +147,11 @@ pub record Theorems : Type 0 where
   pub good-means : GoodMeans
   pub accepted-means : AcceptedMeans
   pub complete-means : CompleteMeans
+  pub rules-followed : RulesFollowed
+  pub order : Order
+  pub empties : Empties
   pub every-step : EveryStep
+  pub every-taking : EveryTaking
   pub bytes-unseen : BytesUnseen
   pub joining-covers : JoiningCovers
   pub joining-order-unseen : JoiningOrderUnseen
@@ -125,3 +162,6 @@ pub record Theorems : Type 0 where
   pub set-is-order : SetIsOrder
   pub order-unseen : OrderUnseen
   pub runs-alike : RunsAlike
+  -- document 01's marked case, and what else is computed
+  pub cases : Cases
+  pub bounds : Bounds
