@@ -1,20 +1,27 @@
 -- Fields put together, from what each call promised of its own. Assumes nothing.
-use Prim.Native.Nat.{ℕ}
-use mathlib.Core.Path.{_≡_, ap, _∙_}
+use Prim.Native.Nat.{ℕ, _≤_}
+use mathlib.Core.Path.{_≡_, sym, ap, _∙_, subst}
 use mathlib.Core.Bool.{cond}
 use mathlib.Core.List.{List, []}
-use Rattle.numbers.specs.Answers as paper
-use Rattle.sd_format.specs.Fields.{asked, of-address, of-load-balancing, of-configuration, address-bytes, protocol, port, priority, weight, string}
-use Rattle.sd_option.specs.Reading.{head-said}
-use Rattle.sd_field.specs.Fields.{size-asked}
-use Rattle.sd_option.specs.declared.reading.OptionHead.{OptionHead}
+use Rattle.numbers.specs.Answers.{accepted, given}
+use Rattle.numbers.proofs.AnswerLaws.{given-accepted}
+use Rattle.sd_format.specs.Options.{First}
+use Rattle.sd_format.specs.Kinds.{scanned}
+use Rattle.sd_format.specs.Frames.{read-option}
+use Rattle.sd_format.proofs.FrameLaws.{option-within}
+use Rattle.sd_field.specs.Said.{first-said, code-said, option-said, Decoded, decoded}
+use Rattle.sd_field.specs.declared.OptionFirst.{OptionFirst}
+use Rattle.sd_field.specs.declared.SdOption.{SdOption}
 use Rattle.sd_entry.specs.Said.{head-said, group-said}
 use Rattle.sd_entry.specs.declared.EntryHead.{EntryHead}
 use Rattle.sd_entry.specs.declared.EventGroup.{EventGroup}
 use Rattle.hub.specs.declared.answers.Answer.{Answer}
+use Rattle.hub.specs.declared.options.Option.{Option}
+use Rattle.hub.specs.declared.options.Span.{Span}
 use Rattle.hub.specs.Answers.{row}
 use Rattle.hub.specs.Entries.{fields}
-use Rattle.hub.specs.Options.{or-zero, place-of, fields-told}
+use Rattle.hub.specs.Options as option
+use Rattle.hub.proofs.Arms.{arm}
 
 -- an entry: its answer and its one bit
 pub fields-made : (code : ℕ) (h : EntryHead) (minor : ℕ) (g : EventGroup) (a : Answer) (b : ℕ) → a ≡ row 0 [] → b ≡ cond (g .«initial_data_requested») 1 0
@@ -57,48 +64,51 @@ fields-made code h minor g a b p q =
       spare = g .spare;
     }
 
--- a field that was asked for and then turned into a number
-module _ {A : Type 0} (f : paper.Answer A → ℕ) where
-  pub field : {x y : paper.Answer A} {n : ℕ} → x ≡ y → n ≡ f x → n ≡ f y
-  field e q = q ∙ ap f e
-
--- an option: each field as it was asked for
-pub option-made : (s : List ℕ) (h : OptionHead)
-    {a : Answer} → a ≡ row 0 []
-    → {b : ℕ} → b ≡ cond (h .discardable) 1 0
-    → {p : paper.Answer ℕ} → p ≡ asked (of-load-balancing priority) s → {p′ : ℕ} → p′ ≡ or-zero p
-    → {v : paper.Answer ℕ} → v ≡ asked (of-load-balancing weight) s → {v′ : ℕ} → v′ ≡ or-zero v
-    → {d : paper.Answer ℕ} → d ≡ size-asked (of-address address-bytes) s → {d′ : ℕ} → d′ ≡ place-of d → {d″ : ℕ} → d″ ≡ or-zero d
-    → {t : paper.Answer ℕ} → t ≡ asked (of-address protocol) s → {t′ : ℕ} → t′ ≡ or-zero t
-    → {o : paper.Answer ℕ} → o ≡ asked (of-address port) s → {o′ : ℕ} → o′ ≡ or-zero o
-    → {z : paper.Answer ℕ} → z ≡ size-asked (of-configuration string) s → {z′ : ℕ} → z′ ≡ place-of z → {z″ : ℕ} → z″ ≡ or-zero z
+-- an option: the same
+pub option-made : (code size : ℕ) (first : OptionFirst) (priority weight : ℕ) (address : Span) (protocol port : ℕ) (string : Span) (a : Answer) (b : ℕ)
+    → a ≡ row 0 [] → b ≡ cond (first .discardable) 1 0
     → record {
       answer = a;
-      code = h .code;
-      size = h .size;
+      code = code;
+      size = size;
       discardable = b;
-      priority = p′;
-      weight = v′;
-      «address_at» = d′;
-      «address_len» = d″;
-      protocol = t′;
-      port = o′;
-      «string_at» = z′;
-      «string_len» = z″;
+      priority = priority;
+      weight = weight;
+      «address_at» = address .at;
+      «address_len» = address .len;
+      protocol = protocol;
+      port = port;
+      «string_at» = string .at;
+      «string_len» = string .len;
     }
-    ≡ fields-told s (head-said h)
-option-made s h ea eb ep ep′ ev ev′ ed ed′ ed″ et et′ eo eo′ ez ez′ ez″ =
+    ≡ option.fields code size (first-said first) priority weight address protocol port string
+option-made code size first priority weight address protocol port string a b p q =
     λ i. record {
-      answer = ea i;
-      code = h .code;
-      size = h .size;
-      discardable = eb i;
-      priority = field or-zero ep ep′ i;
-      weight = field or-zero ev ev′ i;
-      «address_at» = field place-of ed ed′ i;
-      «address_len» = field or-zero ed ed″ i;
-      protocol = field or-zero et et′ i;
-      port = field or-zero eo eo′ i;
-      «string_at» = field place-of ez ez′ i;
-      «string_len» = field or-zero ez ez″ i;
+      answer = p i;
+      code = code;
+      size = size;
+      discardable = q i;
+      priority = priority;
+      weight = weight;
+      «address_at» = address .at;
+      «address_len» = address .len;
+      protocol = protocol;
+      port = port;
+      «string_at» = string .at;
+      «string_len» = string .len;
     }
+
+-- the fields of an option `x` of the kind `here`, with its type and its parts as the calls gave them
+pub fields-told : (size : ℕ) (rest : List ℕ) (x here : SdOption) {r : Option} {code : ℕ} (first : First) (priority weight protocol port : ℕ) {a b : Span} (address string : Span)
+    → r ≡ option.fields code size first priority weight a protocol port b → code ≡ code-said x → a ≡ address → b ≡ string → x ≡ here
+    → option.fields (code-said here) size first priority weight address protocol port string ≡ option.option-fields size (option-said rest here)
+    → r ≡ option.option-fields size (option-said rest x)
+fields-told size rest x here first priority weight protocol port address string made typed ea eb same kind =
+    arm (λ (o : SdOption). option.option-fields size (option-said rest o))
+    (made ∙ (λ i. option.fields ((typed ∙ ap code-said same) i) size first priority weight (ea i) protocol port (eb i)) ∙ kind) same
+
+-- an option that was read takes at least four bytes
+pub four-bytes : (s : List ℕ) (d : Decoded) → accepted d ≡ given decoded (read-option s) → 4 ≤ d .size
+four-bytes s d e =
+    let (f, read, same) = given-accepted decoded (read-option s) d (sym e) in
+    subst (λ (d : Decoded). 4 ≤ d .size) same (option-within scanned s f read .0)

@@ -9,7 +9,7 @@ use Rattle.numbers.specs.Answers as paper
 use Rattle.sd_format.specs.Options.{First, Opt, configuring, balancing, addressed, unrecognised}
 use Rattle.sd_format.specs.Frames.{read-option, lent, table-after, read-index}
 use Rattle.sd_format.specs.Layout.{lay-type, address-length}
-use Rattle.sd_field.specs.Fields.{Decoded, decoded}
+use Rattle.sd_field.specs.Said.{Decoded, decoded}
 use Rattle.hub.specs.declared.answers.Answer.{Answer}
 use Rattle.hub.specs.declared.options.Option.{Option}
 use Rattle.hub.specs.declared.options.Span.{Span}

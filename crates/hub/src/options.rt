@@ -21,13 +21,15 @@ use sd_index::RunCursor;
 use sd_index::look_up;
 use sd_index::read_index;
 ghost use mathlib.Core.Path.{_≡_};
-ghost use Prim.Native.Nat.{_≤_};
 ghost use lib.ListN.{getD};
+ghost use Rattle.sd_format.specs.Frames.{look-up, next-option, next-of-run};
+ghost use Rattle.sd_index.specs.Steps.{run-of};
+ghost use Prim.Native.Nat.{ℕ, _≤_};
+ghost use mathlib.Core.List.{List};
+ghost use Rattle.sd_format.specs.Layout.{address-length};
 ghost use Rattle.numbers.specs.Answers.{verdict};
 ghost use Rattle.sd_format.specs.Strings.{read-string};
-ghost use Rattle.sd_format.specs.Frames.{look-up, next-option, next-of-run};
-ghost use Rattle.sd_field.specs.Fields.{first-said, option-said};
-ghost use Rattle.sd_index.specs.Steps.{run-of};
+ghost use Rattle.sd_field.specs.Said.{first-said, address-said, option-said};
 ghost use Rattle.hub.specs.Answers.{told, no-values, option-values};
 ghost use Rattle.hub.specs.Options.{Indexes, nowhere, behind-first, fields, option-fields, no-option, read-option-told};
 
@@ -153,6 +155,7 @@ fn behind_first(len: usize) -> Span
 
 // How long an address is.
 fn address_len(address: IpAddress) -> usize
+    ensures { λ r. ⌜ r ≡ address-length (address-said address .family) ⌝ }
 {
     match address {
         IpAddress::V4(_) => 4,
@@ -193,6 +196,7 @@ fn told(
 // The fields of an option that takes `size` bytes, by its kind.
 fn fields_of(option: SdOption, size: usize) -> Option
     requires { ⌜ 4 ≤ size ⌝ }
+    ensures { λ r. ⌜ ((rest : List ℕ) → r ≡ option-fields size (option-said rest option)) ⌝ }
 {
     let code = code_of(option);
     match option {

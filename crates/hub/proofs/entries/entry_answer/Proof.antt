@@ -8,21 +8,6 @@ use Rattle.hub.proofs.Arms.{arm}
 use Rattle.hub.proofs.entries.entry_answer.Statement.{statement}
 use Rattle.hub.proofs.entries.entry_answer.Tie as tie
 
-enum-known-answer : tie.Need-enum-known-answer
-enum-known-answer c = search needs
-
-entry-fields-requires : tie.Need-entry-fields-requires
-entry-fields-requires c κs = search needs
-
-enum-known-answer-2 : tie.Need-enum-known-answer-2
-enum-known-answer-2 c = search needs
-
-refused-requires : tie.Need-refused-requires
-refused-requires c κs = search needs
-
-no-entry-requires : tie.Need-no-entry-requires
-no-entry-requires c κs = search needs
-
 returns : tie.Need-returns
 returns c = arm (λ (a : EntryAnswer). entry-told (answer-said a)) (c .entry-fields .ensures) (c .before .before .answer .given .1)
 
@@ -33,10 +18,10 @@ pub entry-answer-spec : {M : Type 1} → statement M
 entry-answer-spec =
     tie.close
     (tie.spec
-    enum-known-answer
-    entry-fields-requires
-    enum-known-answer-2
-    refused-requires
-    no-entry-requires
+    (λ c. search needs)
+    (λ c κs. search needs)
+    (λ c. search needs)
+    (λ c κs. search needs)
+    (λ c κs. search needs)
     returns
     returns-2)

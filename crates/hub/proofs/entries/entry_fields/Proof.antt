@@ -7,18 +7,6 @@ use Rattle.hub.proofs.Arms.{arm}
 use Rattle.hub.proofs.entries.entry_fields.Statement.{statement}
 use Rattle.hub.proofs.entries.entry_fields.Tie as tie
 
-enum-known-entry : tie.Need-enum-known-entry
-enum-known-entry c = search needs
-
-service-fields-requires : tie.Need-service-fields-requires
-service-fields-requires c κs = search needs
-
-enum-known-entry-2 : tie.Need-enum-known-entry-2
-enum-known-entry-2 c = search needs
-
-eventgroup-fields-requires : tie.Need-eventgroup-fields-requires
-eventgroup-fields-requires c κs = search needs
-
 returns : tie.Need-returns
 returns c = arm (λ (a : SdEntry). entry-fields (entry-said a)) (c .service-fields .ensures) (c .before .before .entry .given .1)
 
@@ -29,9 +17,9 @@ pub entry-fields-spec : {M : Type 1} → statement M
 entry-fields-spec =
     tie.close
     (tie.spec
-    enum-known-entry
-    service-fields-requires
-    enum-known-entry-2
-    eventgroup-fields-requires
+    (λ c. search needs)
+    (λ c κs. search needs)
+    (λ c. search needs)
+    (λ c κs. search needs)
     returns
     returns-2)

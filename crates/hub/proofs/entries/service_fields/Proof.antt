@@ -7,18 +7,6 @@ use Rattle.hub.proofs.Arms.{arm}
 use Rattle.hub.proofs.entries.service_fields.Statement.{statement}
 use Rattle.hub.proofs.entries.service_fields.Tie as tie
 
-enum-told : tie.Need-enum-told
-enum-told c = search needs
-
-fields-of-requires : tie.Need-fields-of-requires
-fields-of-requires c κs = search needs
-
-enum-told-2 : tie.Need-enum-told-2
-enum-told-2 c = search needs
-
-fields-of-requires-2 : tie.Need-fields-of-requires-2
-fields-of-requires-2 c κs = search needs
-
 returns : tie.Need-returns
 returns c = arm (λ (a : SdServiceEntryType). entry-fields (service-said a (head-said (c .before .before .before .args .head)) (c .before .before .before .args .minor))) (c .fields-of .ensures) (c .before .enum-told .given .1)
 
@@ -28,4 +16,10 @@ returns-2 c = arm (λ (a : SdServiceEntryType). entry-fields (service-said a (he
 pub service-fields-spec : {M : Type 1} → statement M
 service-fields-spec =
     tie.close
-    (tie.spec enum-told fields-of-requires enum-told-2 fields-of-requires-2 returns returns-2)
+    (tie.spec
+    (λ c. search needs)
+    (λ c κs. search needs)
+    (λ c. search needs)
+    (λ c κs. search needs)
+    returns
+    returns-2)

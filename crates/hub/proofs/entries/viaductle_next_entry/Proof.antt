@@ -5,14 +5,13 @@ use Rattle.hub.specs.Entries.{entry-told}
 use Rattle.hub.proofs.entries.viaductle_next_entry.Statement.{statement}
 use Rattle.hub.proofs.entries.viaductle_next_entry.Tie as tie
 
-next-requires : tie.Need-next-requires
-next-requires c κs = search needs
-
-entry-answer-requires : tie.Need-entry-answer-requires
-entry-answer-requires c κs = search needs
-
 returns : tie.Need-returns
 returns c = c .entry-answer .ensures ∙ ap entry-told (c .before .next .ensures .answer)
 
 pub viaductle-next-entry-spec : {M : Type 1} → statement M
-viaductle-next-entry-spec = tie.close (tie.spec next-requires entry-answer-requires returns)
+viaductle-next-entry-spec =
+    tie.close
+    (tie.spec
+    (λ c κs. search needs)
+    (λ c κs. search needs)
+    returns)

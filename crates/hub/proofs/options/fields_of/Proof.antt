@@ -1,89 +1,68 @@
--- `options::fields_of` meets its contract: each field as it was asked for. Assumes nothing.
+-- `options::fields_of` meets its contract: each arm is told which case it has. Assumes nothing.
+use Prim.Native.Nat.{_-_}
+use mathlib.Core.Path.{refl, ap, _∙_}
+use Rattle.sd_format.specs.Layout.{address-length}
+use Rattle.sd_field.specs.Said.{first-said, address-said}
+use Rattle.hub.specs.Options.{nowhere, behind-first}
+use Rattle.hub.proofs.FieldLaws.{fields-told}
 use borrow.Author.Needs.{needs}
-use Rattle.hub.proofs.FieldLaws.{option-made}
 use Rattle.hub.proofs.options.fields_of.Statement.{statement}
 use Rattle.hub.proofs.options.fields_of.Tie as tie
 
-address-size-requires : tie.Need-address-size-requires
-address-size-requires c κs = search needs
-
-string-size-requires : tie.Need-string-size-requires
-string-size-requires c κs = search needs
-
-none-requires : tie.Need-none-requires
-none-requires c κs = search needs
-
-cast-t6 : tie.Need-cast-t6
-cast-t6 c = search needs
-
-bit-requires : tie.Need-bit-requires
-bit-requires c κs = search needs
-
-priority-requires : tie.Need-priority-requires
-priority-requires c κs = search needs
-
-word-or-zero-requires : tie.Need-word-or-zero-requires
-word-or-zero-requires c κs = search needs
-
-weight-requires : tie.Need-weight-requires
-weight-requires c κs = search needs
-
-word-or-zero-requires-2 : tie.Need-word-or-zero-requires-2
-word-or-zero-requires-2 c κs = search needs
-
-place-of-requires : tie.Need-place-of-requires
-place-of-requires c κs = search needs
-
-size-or-zero-requires : tie.Need-size-or-zero-requires
-size-or-zero-requires c κs = search needs
-
-protocol-requires : tie.Need-protocol-requires
-protocol-requires c κs = search needs
-
-byte-or-zero-requires : tie.Need-byte-or-zero-requires
-byte-or-zero-requires c κs = search needs
-
-port-requires : tie.Need-port-requires
-port-requires c κs = search needs
-
-word-or-zero-requires-3 : tie.Need-word-or-zero-requires-3
-word-or-zero-requires-3 c κs = search needs
-
-place-of-requires-2 : tie.Need-place-of-requires-2
-place-of-requires-2 c κs = search needs
-
-size-or-zero-requires-2 : tie.Need-size-or-zero-requires-2
-size-or-zero-requires-2 c κs = search needs
-
 returns : tie.Need-returns
-returns c =
-    let start = c .before .before .before .before .before .before .before .before .before .before .before .before .before .before .before .before .before .before in
-    option-made (start .args .s .now) (start .args .head) (c .before .before .before .before .before .before .before .before .before .before .before .before .before .before .none .ensures) (c .before .before .before .before .before .before .before .before .before .before .before .before .bit .ensures)
-    (c .before .before .before .before .before .before .before .before .before .before .before .priority .ensures) (c .before .before .before .before .before .before .before .before .before .before .word-or-zero .ensures) (c .before .before .before .before .before .before .before .before .before .weight .ensures)
-    (c .before .before .before .before .before .before .before .before .word-or-zero2 .ensures) (c .before .before .before .before .before .before .before .before .before .before .before .before .before .before .before .before .address-size .ensures) (c .before .before .before .before .before .before .before .place-of .ensures)
-    (c .before .before .before .before .before .before .size-or-zero .ensures) (c .before .before .before .before .before .protocol .ensures) (c .before .before .before .before .byte-or-zero .ensures)
-    (c .before .before .before .port .ensures) (c .before .before .word-or-zero3 .ensures) (c .before .before .before .before .before .before .before .before .before .before .before .before .before .before .before .string-size .ensures)
-    (c .before .place-of2 .ensures) (c .size-or-zero2 .ensures)
+returns c = λ rest.
+    let at-option = c .before .before .before .before in
+    let start = at-option .before .before .before in
+    fields-told (start .args .size) rest (start .args .option) _ (first-said (at-option .option .given .0 .0)) 0 0 0 0 nowhere (behind-first (start .args .size - 4))
+    (c .told .ensures) (at-option .before .before .code-of .ensures) (c .before .before .nowhere .ensures) (c .before .behind-first .ensures) (at-option .option .given .1) refl
+
+returns-2 : tie.Need-returns-2
+returns-2 c = λ rest.
+    let at-option = c .before .before .before .before in
+    let start = at-option .before .before .before in
+    fields-told (start .args .size) rest (start .args .option) _ (first-said (at-option .option2 .given .0 .0)) (at-option .option2 .given .0 .1 .0) (at-option .option2 .given .0 .1 .1 .0) 0 0 nowhere nowhere
+    (c .told2 .ensures) (at-option .before .before .code-of .ensures) (c .before .before .nowhere2 .ensures) (c .before .nowhere3 .ensures) (at-option .option2 .given .1) refl
+
+returns-3 : tie.Need-returns-3
+returns-3 c = λ rest.
+    let at-option = c .before .before .before .before .before in
+    let start = at-option .before .before .before in
+    let address = at-option .option3 .given .0 .1 .1 .0 in
+    fields-told (start .args .size) rest (start .args .option) _ (first-said (at-option .option3 .given .0 .1 .0)) 0 0 (at-option .option3 .given .0 .1 .1 .1 .1 .0) (at-option .option3 .given .0 .1 .1 .1 .1 .1 .0)
+    (behind-first (address-length (address-said address .family))) nowhere
+    (c .told3 .ensures) (at-option .before .before .code-of .ensures) (c .before .before .behind-first2 .ensures ∙ ap behind-first (c .before .before .before .address-len .ensures)) (c .before .nowhere4 .ensures) (at-option .option3 .given .1) refl
+
+returns-4 : tie.Need-returns-4
+returns-4 c = λ rest.
+    let at-option = c .before .before .before .before in
+    let start = at-option .before .before .before in
+    fields-told (start .args .size) rest (start .args .option) _ (first-said (at-option .option4 .given .0 .1 .0)) 0 0 0 0 nowhere nowhere
+    (c .told4 .ensures) (at-option .before .before .code-of .ensures) (c .before .before .nowhere5 .ensures) (c .before .nowhere6 .ensures) (at-option .option4 .given .1) refl
 
 pub fields-of-spec : {M : Type 1} → statement M
 fields-of-spec =
     tie.close
     (tie.spec
-    address-size-requires
-    string-size-requires
-    none-requires
-    cast-t6
-    bit-requires
-    priority-requires
-    word-or-zero-requires
-    weight-requires
-    word-or-zero-requires-2
-    place-of-requires
-    size-or-zero-requires
-    protocol-requires
-    byte-or-zero-requires
-    port-requires
-    word-or-zero-requires-3
-    place-of-requires-2
-    size-or-zero-requires-2
-    returns)
+    (λ c κs. search needs)
+    (λ c. search needs)
+    (λ c κs. search needs)
+    (λ c. search needs)
+    (λ c κs. search needs)
+    (λ c κs. search needs)
+    (λ c. search needs)
+    (λ c κs. search needs)
+    (λ c κs. search needs)
+    (λ c κs. search needs)
+    (λ c. search needs)
+    (λ c κs. search needs)
+    (λ c κs. search needs)
+    (λ c κs. search needs)
+    (λ c κs. search needs)
+    (λ c. search needs)
+    (λ c κs. search needs)
+    (λ c κs. search needs)
+    (λ c κs. search needs)
+    returns
+    returns-2
+    returns-3
+    returns-4)

@@ -1,55 +1,49 @@
 -- `options::viaductle_read_option` meets its contract. Assumes nothing.
-use mathlib.Core.Path.{ap, _∙_}
+use mathlib.Core.Path.{_≡_, sym, ap, _∙_}
+use Rattle.numbers.specs.Answers.{given}
+use Rattle.sd_format.specs.Frames.{read-option}
+use Rattle.sd_field.specs.Said.{decoded, fields-said, rest-of}
+use Rattle.sd_field.specs.declared.FieldsAnswer.{FieldsAnswer}
+use Rattle.hub.specs.Options.{no-option, option-told, read-option-told}
+use Rattle.hub.proofs.FieldLaws.{four-bytes}
 use borrow.Author.Needs.{needs}
-use Rattle.sd_option.specs.declared.reading.OptionAnswer.{OptionAnswer}
-use Rattle.sd_option.specs.Reading.{option-said}
-use Rattle.hub.specs.Options.{option-told, no-option}
-use Rattle.hub.proofs.Arms.{arm}
-use Rattle.hub.proofs.ToldLaws.{option-told-by}
 use Rattle.hub.proofs.options.viaductle_read_option.Statement.{statement}
 use Rattle.hub.proofs.options.viaductle_read_option.Tie as tie
 
-read-option-requires : tie.Need-read-option-requires
-read-option-requires c κs = search needs
-
-enum-known-answer : tie.Need-enum-known-answer
-enum-known-answer c = search needs
+-- what was read, in the case that an arm has
+told-by : (c : tie.After-read-fields) {here : FieldsAnswer} → c .read-fields .result ≡ here
+    → fields-said (rest-of (c .before .before .args .option .now)) here ≡ given decoded (read-option (c .before .before .args .option .now))
+told-by c same = ap (fields-said (rest-of (c .before .before .args .option .now))) (sym same) ∙ c .read-fields .ensures
 
 fields-of-requires : tie.Need-fields-of-requires
-fields-of-requires c κs = search needs
-
-enum-known-answer-2 : tie.Need-enum-known-answer-2
-enum-known-answer-2 c = search needs
-
-refused-requires : tie.Need-refused-requires
-refused-requires c κs = search needs
-
-no-option-requires : tie.Need-no-option-requires
-no-option-requires c κs = search needs
+fields-of-requires c κs =
+    let at-answer = c .before in
+    let at-read = at-answer .before .before in
+    four-bytes (at-read .before .before .args .option .now) _ (told-by at-read (at-answer .answer .given .1))
 
 returns : tie.Need-returns
+unfolding read-option-told
 returns c =
-    let at-read = c .before .before .before .before in
-    let s = at-read .before .before .args .option .now in
-    option-told-by s (at-read .read-option .result) _ (at-read .read-option .ensures)
-    (arm (λ (a : OptionAnswer). option-told s (option-said a)) (c .fields-of .ensures) (c .before .before .answer .given .1))
+    let at-answer = c .before .before in
+    let at-read = at-answer .before .before in
+    c .fields-of .ensures (rest-of (at-read .before .before .args .option .now)) ∙ ap option-told (told-by at-read (at-answer .answer .given .1))
 
 returns-2 : tie.Need-returns-2
+unfolding read-option-told
 returns-2 c =
-    let at-read = c .before .before .before .before .before in
-    let s = at-read .before .before .args .option .now in
-    option-told-by s (at-read .read-option .result) _ (at-read .read-option .ensures)
-    (arm (λ (a : OptionAnswer). option-told s (option-said a)) (c .no-option .ensures ∙ ap no-option (c .before .refused .ensures)) (c .before .before .before .answer2 .given .1))
+    let at-answer = c .before .before .before in
+    let at-read = at-answer .before .before in
+    c .no-option .ensures ∙ ap no-option (c .before .refused .ensures) ∙ ap option-told (told-by at-read (at-answer .answer2 .given .1))
 
 pub viaductle-read-option-spec : {M : Type 1} → statement M
 viaductle-read-option-spec =
     tie.close
     (tie.spec
-    read-option-requires
-    enum-known-answer
+    (λ c κs. search needs)
+    (λ c. search needs)
     fields-of-requires
-    enum-known-answer-2
-    refused-requires
-    no-option-requires
+    (λ c. search needs)
+    (λ c κs. search needs)
+    (λ c κs. search needs)
     returns
     returns-2)
