@@ -10,7 +10,9 @@ BEGIN {
     digits = "0123456789abcdef"
     for (i = 0; i < 256; i++) {
         code = substr(digits, int(i / 16) + 1, 1) substr(digits, i % 16 + 1, 1)
-        character[code] = i == 9 || i == 13 ? " " : i == 10 ? "\n" : i >= 32 && i < 127 ? sprintf("%c", i) : ""
+        number[code] = i
+        # beyond ASCII it may be text in UTF-8, and no hex
+        character[code] = i == 9 || i == 13 ? " " : i == 10 ? "\n" : i >= 32 && i < 127 ? sprintf("%c", i) : i > 127 ? "?" : ""
     }
 }
 
@@ -77,10 +79,9 @@ function base_of(token, grouped, bytes, repeated) {
     return value(token, 10) == bytes ? 10 : 16
 }
 
-# A dump's digits; "" where the text is none, and then `why` where it surely was meant to be one.
+# A dump's digits; "" where the text is none, and then `why` where it surely was meant to be one. Headings in front of it are passed over.
 function dump_of(text,    rows, count, k, row, token, grouped, part, base, first, out, last, repeated, dumps, at) {
     why = ""
-    not_dump = 0
     count = split(tolower(text), rows, "\n")
     for (k = 1; k <= count; k++) {
         row = rows[k]
@@ -88,21 +89,28 @@ function dump_of(text,    rows, count, k, row, token, grouped, part, base, first
         sub(/ +$/, "", row)
         if (row == "") continue
         if (row == "*" && first) { repeated = 1; continue }
-        if (!match(row, /^[0-9a-f]+:?/)) return ""
-        token = substr(row, 1, RLENGTH)
-        row = substr(row, RLENGTH + 1)
+        token = match(row, /^[0-9a-f]+:?( |$)/) ? substr(row, 1, RLENGTH) : ""
+        sub(/ $/, "", token)
+        part = substr(row, length(token) + 1)
         grouped = sub(/:$/, "", token)
-        if (length(token) < 4 || length(token) > 8 || (row != "" && row !~ /^ /)) return ""
-        part = dumped(row, grouped)
+        not_dump = length(token) < 4 || length(token) > 8
+        if (!not_dump) part = dumped(part, grouped)
         if (!first) {
-            # the first line begins at 0
-            if (token !~ /^0+$/) return ""
-            if (not_dump && !grouped && length(token) == 7) why = "it looks like words of hexdump or od, whose bytes are swapped: use xxd, hexdump -C or od -tx1"
-            if (part == "") return ""
+            # the first line begins at 0 and has bytes
+            if (token !~ /^0+$/ || not_dump || part == "") {
+                if (not_dump && !grouped && token == "0000000") {
+                    why = "it looks like words of hexdump or od, whose bytes are swapped: use xxd, hexdump -C or od -tx1"
+                    return ""
+                }
+                if (row ~ /[^][{}(),:;"'x0-9a-f -]/) continue
+                return ""
+            }
+        } else if (not_dump) {
+            why = "line " k " is none of a dump: '" substr(row, 1, 40) "'"
+            return ""
         } else if (token ~ /^0+$/) {
             dumps++
         } else if (!dumps) {
-            if (not_dump) return ""
             if (!base) base = base_of(token, grouped, length(out) / 2, repeated)
             at = value(token, base)
             if (repeated) while (length(out) < at * 2) out = out last
@@ -147,9 +155,9 @@ function escapes(hex,    i, out) {
 
 function told(form, hex) { print form " " length(hex) / 2 " " frame(hex) " " escapes(hex) }
 
-# All bytes of the input: `all` as digits, `text` as text, which is whole where `letters` are as many as the bytes.
+# All bytes of the input: `all` as digits, and `text` unless they are `no_text`.
 function whole(    hex) {
-    if (raw || letters != length(all) / 2) { told("raw", all); return }
+    if (raw || no_text || more) { told("raw", all); return }
     hex = dump_of(text)
     if (hex != "") { told("dump", hex); return }
     if (why == "") hex = hex_of(text)
@@ -166,10 +174,18 @@ lines {
     next
 }
 
+# `more` bytes of a character in UTF-8 are to come
+function letter(code,    i) {
+    i = number[code]
+    if (character[code] == "" || (i >= 128 && i < 192) != (more > 0)) no_text = 1
+    more = more > 0 ? more - 1 : i < 192 ? 0 : i < 224 ? 1 : i < 240 ? 2 : 3
+    text = text character[code]
+}
+
 {
     for (i = 1; i <= NF; i++) {
         all = all $i
-        if (character[$i] != "") { text = text character[$i]; letters++ }
+        if (!no_text) letter($i)
     }
 }
 
