@@ -6,7 +6,7 @@ use Rattle.numbers.specs.Answers as paper
 use Rattle.sd_format.specs.Frames.{Frame}
 use Rattle.sd_format.specs.Frames as Frames
 use Rattle.sd_option.specs.declared.reading.OptionHead.{OptionHead}
-use Rattle.sd_index.specs.Found.{Located}
+use Rattle.sd_index.specs.declared.lookup.Found.{Found}
 use Rattle.refusal.specs.declared.values.Numbers.{Numbers}
 use Rattle.refusal.specs.Said.{places, padded}
 use Rattle.hub.specs.declared.answers.Answer.{Answer}
@@ -39,8 +39,8 @@ one-value n = n ∷ []
 abbrev pub head-values : (at : ℕ) → OptionHead → List ℕ
 head-values at h = h .code ∷ at ∷ h .size ∷ []
 
-abbrev pub located-values : Located → List ℕ
-located-values l = head-values (l .offset) (l .head)
+abbrev pub located-values : Found → List ℕ
+located-values l = head-values (l .offset .0) (l .head)
 
 -- the same of an option as it stands in the part
 abbrev pub option-values : (at : ℕ) → Frame → List ℕ

@@ -6,14 +6,13 @@ use Rattle.hub.proofs.ToldLaws.{located-told}
 use Rattle.hub.proofs.options.viaductle_lookup.Statement.{statement}
 use Rattle.hub.proofs.options.viaductle_lookup.Tie as tie
 
-look-up-requires : tie.Need-look-up-requires
-look-up-requires c κs = search needs
-
-found-answer-requires : tie.Need-found-answer-requires
-found-answer-requires c κs = search needs
-
 returns : tie.Need-returns
 returns c = c .found-answer .ensures ∙ ap (told located-values) (c .before .look-up .ensures) ∙ located-told _ _
 
 pub viaductle-lookup-spec : {M : Type 1} → statement M
-viaductle-lookup-spec = tie.close (tie.spec look-up-requires found-answer-requires returns)
+viaductle-lookup-spec =
+    tie.close
+    (tie.spec
+    (λ c κs. search needs)
+    (λ c κs. search needs)
+    returns)
