@@ -1,35 +1,44 @@
--- The calls of a stream over words, from what the calls of `tp_stream` promise. Assumes nothing.
-use Prim.Native.Nat.{ℕ, _≤_, _<_}
-use mathlib.Core.Path.{_≡_, sym, ap, ap₂, _∙_}
-use mathlib.Core.Bool.{Bool, cond}
-use mathlib.Core.List.{List, []}
+-- The calls of a stream over words, from what the calls of `tp_stream` and `tp_words` promise; and what follows of calls one after the other.
+-- Assumes nothing.
+use Prim.Native.Nat.{ℕ, _+_, _≤_, _<_}
+use mathlib.Core.Path.{_≡_, refl, sym, ap, ap₂, subst, _∙_}
+use mathlib.Core.Bool.{Bool, true, false, cond, false≢true}
+use mathlib.Core.List.{List}
+use mathlib.Core.Logic.{_↔_, inl}
 use native.Mathlib.Omega.{arith}
 use borrow.Author.Tests.{lt-ltb, le-ltb}
-use lib.ListN.{length, getD}
+use lib.ListN.{length, take, getD}
+use lib.Seq.{length-take-le}
 use Rattle.numbers.specs.Refusals.{malformed-state}
-use Rattle.numbers.proofs.AnswerLaws.{when-hit, when-pass}
+use Rattle.numbers.specs.Answers.{given}
 use Rattle.numbers.specs.Answers as paper
-use Rattle.tp_machine.specs.Machine.{most, State, Out, fresh, begun, begin, step, taken}
-use Rattle.tp_machine.specs.Taking.{complete, taking}
+use Rattle.numbers.proofs.AnswerLaws.{when-hit, when-pass}
+use Rattle.refusal.specs.declared.Refusal.{Refusal}
+use Rattle.refusal.specs.declared.answers.Verdict.the-variants as verdict
+use Rattle.refusal.specs.declared.answers.Count.{Count}
+use Rattle.refusal.specs.declared.answers.Count.the-variants as count
+use Rattle.refusal.specs.Said.{verdict-said, count-said}
+use Rattle.tp_machine.specs.Machine.{most, State, Out, begun, begin, step, opened, fed, clear, bad-state}
+use Rattle.tp_machine.specs.Taking.{Taken, complete, ready, finished, report, taking}
+use Rattle.tp_machine.specs.Meaning.{Complete}
+use Rattle.tp_machine.specs.Runs.{admitted, Reported}
 use Rattle.tp_machine.proofs.Steps.{every-step}
-use Rattle.tp_machine.proofs.Tests.{accepted-means, taken-good}
+use Rattle.tp_machine.proofs.Tests as tests
+use Rattle.tp_machine.proofs.Report.{every-report}
 use Rattle.tp_stream.specs.declared.TpStream.{TpStream}
 use Rattle.tp_stream.specs.declared.TpStep.{TpStep}
-use Rattle.tp_stream.specs.declared.TpTaken.{TpTaken}
-use Rattle.tp_stream.specs.declared.TpRefusal.{TpRefusal}
-use Rattle.tp_stream.specs.declared.TpAnswer.{TpAnswer}
-use Rattle.tp_stream.specs.declared.TpAnswer.the-variants.{Accepted, Refused}
-use Rattle.tp_stream.specs.Saying.{said, answerOf, takenOf}
 use Rattle.tp_stream.specs.Stream.{view, stored, blank}
 use Rattle.tp_stream.specs.Promises.{seen, Began, Ran, Took}
-use Rattle.tp_stream.proofs.StreamLaws.{held-length}
+use Rattle.tp_stream.proofs.TakingLaws.{ready-tells}
+use Rattle.tp_stream.proofs.Follows.{finished-length}
+use Rattle.tp_words.specs.Words.{size, unfit, stream-of, state-of, put}
+use Rattle.tp_words.proofs.PutLaws.{fit}
+use Rattle.tp_words.proofs.Holding.{words-hold}
 use Rattle.hub.specs.declared.answers.Answer.{Answer}
 use Rattle.hub.specs.Answers.{row, refusal-row, told, no-values, one-value, report-values}
-use Rattle.hub.specs.Words.{size, stream-of, put}
-use Rattle.hub.specs.Tp.{state-of, in-words, Begins, kept, Consumes, completes, Takes, Clears}
-use Rattle.hub.proofs.StreamLaws.{put-few}
+use Rattle.hub.specs.Tp.{in-words, Begins, kept, Consumes, completes, InFront, Takes, Clears, Comes, none, next, Called, Stands, Reports, Shut, OverWords}
 
--- ---- too few words, or enough of them
+-- ---- beginning
 
 module _ (ws : List ℕ) (v : paper.Verdict) where
   few : length ws < size → refusal-row malformed-state ≡ told no-values (in-words ws v)
@@ -38,85 +47,185 @@ module _ (ws : List ℕ) (v : paper.Verdict) where
   enough : size ≤ length ws → told no-values v ≡ told no-values (in-words ws v)
   enough h = sym (ap (told no-values) (when-pass malformed-state _ v (le-ltb (length ws) size h)))
 
--- ---- beginning and clearing
-
 module _ (ws : List ℕ) (limit : ℕ) where
-  pub begins-few : (r : Answer) → r ≡ row 38 [] → length ws < size → Begins ws limit r ws
-  begins-few r e h = record { answers = e ∙ few ws (begun limit) h; words = put-few ws (stored blank (begin limit)) h }
-
-  pub begun-none : (s : TpStep) → Began limit s → s .stream .count ≤ most
-  unfolding begin
-  begun-none s b = let none : s .stream .count ≡ 0 = ap (λ (t : TpStream). t .count) (b .begins) in omega arith
-
-  pub begins : (s : TpStep) (r : Answer) (ws′ : List ℕ) → Began limit s → size ≤ length ws → ws′ ≡ put ws (s .stream) → r ≡ told no-values (answerOf (s .answer)) → Begins ws limit r ws′
-  begins s r ws′ b h w e =
+  pub begins-few : (r : Answer) → r ≡ refusal-row malformed-state → length ws < size → Begins ws limit r ws
+  begins-few r e h =
       record {
-        answers = e ∙ ap (told no-values) (b .answers) ∙ enough ws (begun limit) h;
-        words = w ∙ ap (put ws) (b .begins);
+        answers = e ∙ few ws (begun limit) h;
+        words = sym (words-hold .left-alone ws (stored blank (begin limit)) (inl h));
+        state = λ k. absurd (omega arith);
       }
 
-module _ (ws : List ℕ) where
-  pub clears-few : (r : Answer) → r ≡ row 38 [] → length ws < size → Clears ws r ws
-  clears-few r e h = record { answers = e ∙ few ws paper.pass h; words = put-few ws (stored blank (fresh (getD ws 0 0))) h }
-
-  pub fresh-none : (limit : ℕ) (s : TpStream) → s ≡ stored blank (fresh limit) → s .count ≤ most
-  fresh-none limit s e = let none : s .count ≡ 0 = ap (λ (t : TpStream). t .count) e in omega arith
-
-  pub clears : (s : TpStream) (r : Answer) (ws′ : List ℕ) → s ≡ stored blank (fresh (getD ws 0 0)) → size ≤ length ws → ws′ ≡ put ws s → r ≡ row 0 [] → Clears ws r ws′
-  clears s r ws′ f h w e = record { answers = e ∙ enough ws paper.pass h; words = w ∙ ap (put ws) f }
+  pub begins : (s : TpStep) (r : Answer) (ws′ : List ℕ) → Began limit s → size ≤ length ws → ws′ ≡ put ws (s .stream) → r ≡ told no-values (verdict-said (s .answer)) → Begins ws limit r ws′
+  unfolding begin blank
+  begins s r ws′ b h w e =
+      let words : ws′ ≡ put ws (stored blank (begin limit)) = w ∙ ap (put ws) (b .begins) in
+      record {
+        answers = e ∙ ap (told no-values) (b .answers) ∙ enough ws (begun limit) h;
+        words = words;
+        state = λ k. ap state-of words ∙ words-hold .stored-back ws blank (begin limit) h refl (omega arith);
+      }
 
 -- ---- one segment
 
-module _ (ws seg buf : List ℕ) (s : TpStream) (is : s ≡ stream-of ws) (r : TpStep) (buf′ : List ℕ) (ran : Ran s seg buf r buf′) where
+module _ (ws seg buf : List ℕ) where
   abbrev out : Out
   out = step (state-of ws) seg buf
 
-  -- what was seen is what the machine left of the words' state
-  steps : seen r buf′ ≡ out
-  steps = ran .steps ∙ ap (λ (t : TpStream). step (view t) seg buf) is
+  -- words whose state is well formed are fit
+  fits : (b : Bool) → unfit ws ≡ b → bad-state (state-of ws) ≡ false → size ≤ length ws
+  fits true e g = absurd (false≢true (sym g ∙ words-hold .unfit-malformed ws e))
+  fits false e g = fit ws e
 
-  says : {a : TpAnswer} → r .answer ≡ a → answerOf a ≡ out .answer
-  says e = ap answerOf (sym e) ∙ ap (λ (o : Out). o .answer) steps
+  -- the state that the next call reads
+  next-state : (v : paper.Verdict) → out .answer ≡ v → state-of (kept ws v (out .state)) ≡ out .state
+  next-state (paper.accepted u) e =
+      let leaves = every-step (state-of ws) seg buf in
+      let means = tests.accepted-means (state-of ws) seg (length buf) .0 (sym (leaves .answer) ∙ e) in
+      let good = tests.taken-good (state-of ws) seg (length buf) means in
+      let few : length (out .state .ranges) ≤ most = subst (λ (p : State). length (p .ranges) ≤ most) (sym (leaves .accepts e .0)) (good .few) in
+      words-hold .stored-back ws (stream-of ws) (out .state) (fits (unfit ws) refl (tests.good-means (state-of ws) .1 (means .good))) (words-hold .read-places ws) few
+  next-state (paper.refused r) e = sym (every-step (state-of ws) seg buf .refuses r e .0)
 
-  pub accepted-few : r .answer ≡ Accepted → r .stream .count ≤ most
-  accepted-few e =
-      let pass : out .answer ≡ paper.pass = sym (says e) in
-      let every = every-step (state-of ws) seg buf in
-      let good = taken-good (state-of ws) seg (length buf) (accepted-means (state-of ws) seg (length buf) .0 (sym (every .answer) ∙ pass)) in
-      let state : view (r .stream) ≡ taken (state-of ws) seg = ap (λ (o : Out). o .state) steps ∙ every .accepts pass .0 in
-      let same : length (view (r .stream) .ranges) ≡ length (taken (state-of ws) seg .ranges) = ap (λ (p : State). length (p .ranges)) state in
-      omega (arith, held-length (r .stream .count) (r .stream .ranges), good .few)
+  module _ (s : TpStream) (is : s ≡ stream-of ws) (r : TpStep) (buf′ : List ℕ) (ran : Ran s seg buf r buf′) (a : Answer) (says : a ≡ told no-values (verdict-said (r .answer))) (ws′ : List ℕ) where
+    -- what was seen is what the machine left of the words' state
+    steps : seen r buf′ ≡ out
+    steps = ran .steps ∙ ap (λ (t : TpStream). step (view t) seg buf) is
 
-  pub consumed : (a : Answer) (ws′ : List ℕ) → r .answer ≡ Accepted → ws′ ≡ put ws (r .stream) → a ≡ row 0 [] → Consumes ws seg buf a ws′ buf′
-  consumed a ws′ e w n =
-      record {
-        answers = n ∙ ap (told no-values) (says e);
-        words =
-            w
-            ∙ ap (put ws) (ran .places ∙ ap (λ (t : TpStream). stored t (view (r .stream))) is)
-            ∙ ap₂ {C = List ℕ} (kept ws) (says e) (ap (λ (o : Out). o .state) steps);
-        buffer = ap (λ (o : Out). o .buffer) steps;
-      }
+    consumes : ws′ ≡ kept ws (out .answer) (out .state) → Consumes ws seg buf a ws′ buf′
+    consumes w =
+        record {
+          answers = says ∙ ap (λ (o : Out). told no-values (o .answer)) steps;
+          words = w;
+          buffer = ap (λ (o : Out). o .buffer) steps;
+          state = ap state-of w ∙ next-state (out .answer) refl;
+        }
 
-  pub consumed-not : (a : Answer) (q : TpRefusal) → r .answer ≡ Refused q → a ≡ refusal-row (said q) → Consumes ws seg buf a ws buf′
-  consumed-not a q e n =
-      record {
-        answers = n ∙ ap (told no-values) (says e);
-        words = ap (λ (v : paper.Verdict). kept ws v (out .state)) (says e);
-        buffer = ap (λ (o : Out). o .buffer) steps;
-      }
+    pub consumed : r .answer ≡ verdict.Passed → ws′ ≡ put ws (r .stream) → Consumes ws seg buf a ws′ buf′
+    consumed e w =
+        consumes (
+        w
+        ∙ ap (put ws) (ran .places ∙ ap (λ (t : TpStream). stored t (view (r .stream))) is)
+        ∙ ap₂ {C = List ℕ} (kept ws) (ap verdict-said (sym e) ∙ ap (λ (o : Out). o .answer) steps) (ap (λ (o : Out). o .state) steps)
+        )
+
+    pub consumed-not : (q : Refusal) → r .answer ≡ verdict.Refused q → ws′ ≡ ws → Consumes ws seg buf a ws′ buf′
+    consumed-not q e w = consumes (w ∙ ap (λ (v : paper.Verdict). kept ws v (out .state)) (ap verdict-said (sym e) ∙ ap (λ (o : Out). o .answer) steps))
 
 -- ---- complete, and taking
 
-pub completed : (ws : List ℕ) (s : TpStream) (b : Bool) (n : ℕ) (r : Answer) → s ≡ stream-of ws → b ≡ complete (view s) → n ≡ cond b 1 0 → r ≡ row 0 (one-value n) → r ≡ completes ws
-completed ws s b n r is e k q =
-    q
-    ∙ ap (λ (m : ℕ). row 0 (one-value m)) k
-    ∙ ap (λ (t : Bool). row 0 (one-value (cond t 1 0))) (e ∙ ap (λ (t : TpStream). complete (view t)) is)
+pub completed : (ws : List ℕ) (s : TpStream) (b t : Bool) (r : Answer) → s ≡ stream-of ws → b ≡ complete (view s) → b ≡ t → r ≡ row 0 (one-value (cond t 1 0)) → r ≡ completes ws
+completed ws s b t r is e k q = q ∙ ap (λ (x : Bool). row 0 (one-value (cond x 1 0))) (sym k ∙ e ∙ ap (λ (u : TpStream). complete (view u)) is)
 
-pub takes : (ws buf : List ℕ) (s : TpStream) (t : TpTaken) (buf′ : List ℕ) (r : Answer) → s ≡ stream-of ws → Took s buf t buf′ → r ≡ told report-values (takenOf t) → Takes ws buf r buf′
-takes ws buf s t buf′ r is took e =
+-- the report that the machine gives stands in front
+in-front : (p : State) (buf : List ℕ) (end : ℕ) → taking p buf .answer ≡ paper.accepted end → InFront p buf end (taking p buf .buffer)
+unfolding taking given
+in-front p buf end e =
+    let room = ready-tells p (length buf) end (sym e) .0 in
+    let long : length (finished (ready p (length buf)) buf) ≡ length buf = finished-length p buf (ready p (length buf)) refl in
+    let part : take (16 + end) (finished (ready p (length buf)) buf) ≡ taking p buf .part = ap (λ (a : paper.Answer ℕ). report a (finished (ready p (length buf)) buf)) (sym e) in
+    let within : 16 + end ≤ length (finished (ready p (length buf)) buf) = omega arith in
+    record { within = within; told-length = sym (ap length part) ∙ length-take-le (16 + end) (finished (ready p (length buf)) buf) within; part = part }
+
+module _ (ws buf : List ℕ) (s : TpStream) (is : s ≡ stream-of ws) (t : Count) (buf′ : List ℕ) (took : Took s buf t buf′) where
+  same : count-said t ≡ taking (state-of ws) buf .answer
+  same = took .answers ∙ ap (λ (u : TpStream). taking (view u) buf .answer) is
+
+  -- as long as the buffer at most
+  pub taken-low : (end : ℕ) → t ≡ count.Good end → 16 + end ≤ length buf
+  unfolding taking
+  taken-low end e = ready-tells (state-of ws) (length buf) end (ap count-said (sym e) ∙ same) .0
+
+  module _ (r : Answer) where
+    takes : r ≡ told report-values (taking (state-of ws) buf .answer) → Takes ws buf r buf′
+    takes e =
+        let left : buf′ ≡ taking (state-of ws) buf .buffer = took .writes ∙ ap (λ (u : TpStream). taking (view u) buf .buffer) is in
+        record { answers = e; buffer = left; report = λ end q. subst (InFront (state-of ws) buf end) (sym left) (in-front (state-of ws) buf end q) }
+
+    pub taken : (end : ℕ) → t ≡ count.Good end → r ≡ told one-value (paper.accepted (16 + end)) → Takes ws buf r buf′
+    taken end e q = takes (q ∙ ap (told report-values) (ap count-said (sym e) ∙ same))
+
+    pub taken-not : (q : Refusal) → t ≡ count.Refused q → r ≡ told one-value (count-said t) → Takes ws buf r buf′
+    taken-not q e k = takes (k ∙ ap (λ (c : Count). told one-value (count-said c)) e ∙ ap (told report-values) (ap count-said (sym e) ∙ same))
+
+-- ---- clearing
+
+module _ (ws : List ℕ) (r : Answer) where
+  pub clears-not : unfit ws ≡ true → r ≡ refusal-row malformed-state → Clears ws r ws
+  clears-not e q =
+      record {
+        answers = q ∙ sym (ap (told no-values) (when-hit malformed-state (unfit ws) paper.pass e));
+        words = sym (ap (λ (b : Bool). cond b ws (put ws (stored (stream-of ws) (clear (state-of ws))))) e);
+        state = λ f. absurd (false≢true (sym f ∙ e));
+      }
+
+  pub clears : (s t : TpStream) (ws′ : List ℕ) → unfit ws ≡ false → s ≡ stream-of ws → t ≡ stored s (clear (view s)) → ws′ ≡ put ws t → r ≡ told no-values paper.pass → Clears ws r ws′
+  unfolding clear
+  clears s t ws′ e is c w q =
+      let words : ws′ ≡ put ws (stored (stream-of ws) (clear (state-of ws))) = w ∙ ap (put ws) (c ∙ ap (λ (u : TpStream). stored u (clear (view u))) is) in
+      record {
+        answers = q ∙ sym (ap (told no-values) (when-pass malformed-state (unfit ws) paper.pass e));
+        words = words ∙ sym (ap (λ (b : Bool). cond b ws (put ws (stored (stream-of ws) (clear (state-of ws))))) e);
+        state = λ f. ap state-of words ∙ words-hold .stored-back ws (stream-of ws) (clear (state-of ws)) (fit ws e) (words-hold .read-places ws) (omega arith);
+      }
+
+-- ---- calls one after the other
+
+comes : {ws buf ws′ buf′ : List ℕ} {r r′ : Answer} {segs : List (List ℕ)} → Comes ws buf r segs ws′ buf′ r′ → (o : Out) → Stands o ws buf r → Stands (fed o segs) ws′ buf′ r′
+unfolding fed
+comes none o h = h
+comes (next {ws} {buf} {seg} call more) o h =
+    let e : step (state-of ws) seg buf ≡ step (o .state) seg (o .buffer) = λ i. step (h .state i) seg (h .buffer i) in
+    comes more (step (o .state) seg (o .buffer))
+    (record {
+      state = call .state ∙ ap (λ (x : Out). x .state) e;
+      buffer = call .buffer ∙ ap (λ (x : Out). x .buffer) e;
+      answer = call .answers ∙ ap (λ (x : Out). told no-values (x .answer)) e;
+    })
+
+runs : {limit : ℕ} {buf ws′ buf′ : List ℕ} {segs : List (List ℕ)} {r : Answer} → Called limit buf segs ws′ buf′ r → Stands (fed (opened limit buf) segs) ws′ buf′ r
+runs {limit} {buf} c =
+    comes (c .comes) (opened limit buf)
+    (record { state = c .begins .state (c .enough); buffer = refl; answer = c .begins .answers ∙ sym (enough (c .lent) (begun limit) (c .enough)) })
+
+complete-means : (ws : List ℕ) → (completes ws ≡ row 0 (one-value 1)) ↔ Complete (state-of ws)
+complete-means ws = (
+  (λ e. tests.complete-means (state-of ws) .0 (go (complete (state-of ws)) (ap (λ (a : Answer). getD (a .values) 0 0) e))),
+  (λ c. ap (λ (b : Bool). row 0 (one-value (cond b 1 0))) (tests.complete-means (state-of ws) .1 c)),
+)
+  where
+    go : (b : Bool) → _≡_ {A = ℕ} (cond b 1 0) 1 → b ≡ true
+    go true e = refl
+    go false e = absurd (omega arith)
+
+reports : {limit : ℕ} {buf ws′ buf′ b : List ℕ} {segs : List (List ℕ)} {r t : Answer} → Called limit buf segs ws′ buf′ r → Complete (state-of ws′) → Takes ws′ buf′ t b
+    → Reports (admitted (opened limit buf) segs) t b
+reports {limit} {buf} {ws′} {buf′} {b} {segs} c whole takes =
+    let stands = runs c in
+    let o : Out = fed (opened limit buf) segs in
+    let is : complete (o .state) ≡ true = ap complete (sym (stands .state)) ∙ tests.complete-means (state-of ws′) .1 whole in
+    let given = every-report limit buf segs is in
+    let same : taking (state-of ws′) buf′ ≡ taking (o .state) (o .buffer) = λ i. taking (stands .state i) (stands .buffer i) in
+    let answer : taking (state-of ws′) buf′ .answer ≡ paper.accepted (given .size) = ap (λ (t : Taken). t .answer) same ∙ given .answer in
+    let part : take (16 + given .size) b ≡ taking (o .state) (o .buffer) .part = takes .report (given .size) answer .part ∙ ap (λ (t : Taken). t .part) same in
+    record { end = given .size; told-length = takes .answers ∙ ap (told report-values) answer; reported = subst (Reported (admitted (opened limit buf) segs) (given .size)) (sym part) (given .reported) }
+
+unfit-shut : (ws : List ℕ) → unfit ws ≡ true → Shut ws
+unfit-shut ws e =
+    let no = words-hold .unfit-refuses ws e in
     record {
-      answers = e ∙ ap (told report-values) (took .answers ∙ ap (λ (u : TpStream). taking (view u) buf .answer) is);
-      buffer = took .writes ∙ ap (λ (u : TpStream). taking (view u) buf .buffer) is;
+      consuming = λ seg buf r ws′ buf′ c. (
+        c .answers ∙ ap (λ (o : Out). told no-values (o .answer)) (no .segments seg buf),
+        c .words ∙ ap (λ (o : Out). kept ws (o .answer) (o .state)) (no .segments seg buf),
+        c .buffer ∙ ap (λ (o : Out). o .buffer) (no .segments seg buf),
+      );
+      reporting = λ buf r buf′ t. (t .answers ∙ ap (λ (k : Taken). told report-values (k .answer)) (no .report buf), t .buffer ∙ ap (λ (k : Taken). k .buffer) (no .report buf));
+      clearing = λ r ws′ c. (
+        c .answers ∙ ap (told no-values) (when-hit malformed-state (unfit ws) paper.pass e),
+        c .words ∙ ap (λ (b : Bool). cond b ws (put ws (stored (stream-of ws) (clear (state-of ws))))) e,
+      );
+      incomplete = ap (λ (b : Bool). row 0 (one-value (cond b 1 0))) (no .incomplete);
     }
+
+pub over-words : OverWords
+over-words = record { runs = runs; complete-means = complete-means; reports = reports; unfit-shut = unfit-shut }

@@ -1,5 +1,4 @@
 pub mod Answers
-pub mod Words
 pub mod Tp
 pub mod Options
 pub mod Entries

@@ -1,16 +1,16 @@
 // A stream of TP segments over words that the caller keeps, as exported to C.
 use crate::answers::Answer;
-use crate::answers::bit;
-use crate::answers::none;
-use crate::answers::one;
-use crate::answers::stream_answer;
-use crate::answers::stream_refused;
-use crate::answers::taken_answer;
-use crate::words::WORDS;
-use crate::words::fresh;
-use crate::words::put;
-use crate::words::stream_of;
-use tp_stream::TpAnswer;
+use crate::answers::count_answer;
+use crate::answers::refused;
+use crate::answers::verdict_answer;
+use refusal::Count;
+use refusal::Refusal;
+use refusal::Verdict;
+use tp_segment::HEADER_LEN;
+use tp_words::WORDS;
+use tp_words::put;
+use tp_words::stream_of;
+use tp_words::unfit;
 ghost use mathlib.Core.Path.{_≡_};
 ghost use Rattle.hub.specs.Tp.{Begins, Consumes, completes, Takes, Clears};
 
@@ -20,13 +20,13 @@ pub extern "C" fn viaductle_begin(words: &mut [u32], limit: u32) -> Answer
     ensures { λ r. ⌜ Begins (now (words .entry)) limit r (now (words .exit)) ⌝ }
 {
     if words.len() < WORDS {
-        return none(38);
+        return refused(Refusal::MalformedState);
     }
     let step = tp_stream::begin(limit);
     let stream = step.stream;
     put(words, stream);
     let answer = step.answer;
-    stream_answer(answer)
+    verdict_answer(answer)
 }
 
 // One segment comes; a refusal leaves words and buffer as they were.
@@ -36,14 +36,12 @@ pub extern "C" fn viaductle_consume(words: &mut [u32], segment: &[u8], buffer: &
 {
     let step = tp_stream::consume(stream_of(words), segment, buffer);
     let answer = step.answer;
-    match answer {
-        TpAnswer::Accepted => {
-            let stream = step.stream;
-            put(words, stream);
-            none(0)
-        }
-        TpAnswer::Refused(refusal) => stream_refused(refusal),
-    }
+    let Verdict::Passed = answer else {
+        return verdict_answer(answer);
+    };
+    let stream = step.stream;
+    put(words, stream);
+    verdict_answer(answer)
 }
 
 // 1 where the stream is complete, else 0.
@@ -51,7 +49,10 @@ pub extern "C" fn viaductle_consume(words: &mut [u32], segment: &[u8], buffer: &
 pub extern "C" fn viaductle_complete(words: &[u32]) -> Answer
     ensures { λ r. ⌜ r ≡ completes (now (words .entry)) ⌝ }
 {
-    one(0, bit(tp_stream::complete(stream_of(words))))
+    if tp_stream::complete(stream_of(words)) {
+        return count_answer(Count::Good(1));
+    }
+    count_answer(Count::Good(0))
 }
 
 // Taking the report: 38, 37, 34, or its length field is written and how long it is.
@@ -59,18 +60,22 @@ pub extern "C" fn viaductle_complete(words: &[u32]) -> Answer
 pub extern "C" fn viaductle_take(words: &[u32], buffer: &mut [u8]) -> Answer
     ensures { λ r. ⌜ Takes (now (words .entry)) (now (buffer .entry)) r (now (buffer .exit)) ⌝ }
 {
-    taken_answer(tp_stream::take(stream_of(words), buffer))
+    let answer = tp_stream::take(stream_of(words), buffer);
+    let Count::Good(end) = answer else {
+        return count_answer(answer);
+    };
+    let length = HEADER_LEN + end;
+    count_answer(Count::Good(length))
 }
 
-// The limit is kept and all else forgotten, whatever the words held: 38 where they are too few.
+// The limit is kept, ranges and end are forgotten: 38 where the words are unfit, and they are left alone.
 #[no_mangle]
 pub extern "C" fn viaductle_clear(words: &mut [u32]) -> Answer
     ensures { λ r. ⌜ Clears (now (words .entry)) r (now (words .exit)) ⌝ }
 {
-    if words.len() < WORDS {
-        return none(38);
+    if unfit(words) {
+        return refused(Refusal::MalformedState);
     }
-    let limit = words[0];
-    put(words, fresh(limit));
-    none(0)
+    put(words, tp_stream::clear(stream_of(words)));
+    verdict_answer(Verdict::Passed)
 }

@@ -45,7 +45,7 @@ runs (next {s} {buf} {seg} ran more) o h =
     runs more (step (o .state) seg (o .buffer)) (ap (λ (x : Out). x .state) q, ap (λ (x : Out). x .buffer) q)
 
 -- the length field leaves the buffer's length
-finished-length : (p : State) (buf : List ℕ) (a : Answer ℕ) → a ≡ ready p (length buf) → length (finished a buf) ≡ length buf
+pub finished-length : (p : State) (buf : List ℕ) (a : Answer ℕ) → a ≡ ready p (length buf) → length (finished a buf) ≡ length buf
 unfolding be32 be16
 finished-length p buf (accepted e) q = pasted-length buf 4 (be32 (e + 8)) (omega (arith, ready-tells p (length buf) e q))
 finished-length p buf (refused r) q = refl

@@ -1,24 +1,26 @@
 -- `tp::viaductle_complete` meets its contract. Assumes nothing.
-use borrow.Author.Needs.{needs}
 use Rattle.hub.proofs.TpLaws.{completed}
+use borrow.Author.Needs.{needs}
 use Rattle.hub.proofs.tp.viaductle_complete.Statement.{statement}
 use Rattle.hub.proofs.tp.viaductle_complete.Tie as tie
 
-stream-of-requires : tie.Need-stream-of-requires
-stream-of-requires c κs = search needs
-
-complete-requires : tie.Need-complete-requires
-complete-requires c κs = search needs
-
-bit-requires : tie.Need-bit-requires
-bit-requires c κs = search needs
-
-one-requires : tie.Need-one-requires
-one-requires c κs = search needs
-
 returns : tie.Need-returns
-returns c = completed _ _ _ _ _ (c .before .before .before .stream-of .ensures) (c .before .before .complete .ensures) (c .before .bit .ensures) (c .one .ensures)
+returns c =
+    let at-complete = c .before .before in
+    completed _ _ _ _ _ (at-complete .before .stream-of .ensures) (at-complete .complete .ensures) (c .before .if1 .taken) (c .count-answer .ensures)
+
+returns-2 : tie.Need-returns-2
+returns-2 c =
+    let at-complete = c .before .before in
+    completed _ _ _ _ _ (at-complete .before .stream-of .ensures) (at-complete .complete .ensures) (c .before .if1 .left) (c .count-answer2 .ensures)
 
 pub viaductle-complete-spec : {M : Type 1} → statement M
 viaductle-complete-spec =
-    tie.close (tie.spec stream-of-requires complete-requires bit-requires one-requires returns)
+    tie.close
+    (tie.spec
+    (λ c κs. search needs)
+    (λ c κs. search needs)
+    (λ c κs. search needs)
+    returns
+    (λ c κs. search needs)
+    returns-2)

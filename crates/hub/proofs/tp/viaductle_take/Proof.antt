@@ -1,28 +1,46 @@
 -- `tp::viaductle_take` meets its contract. Assumes nothing.
+use native.Mathlib.Omega.{arith}
+use Rattle.hub.proofs.TpLaws.{taken-low, taken, taken-not}
 use borrow.Author.Needs.{needs}
-use Rattle.hub.proofs.TpLaws.{takes}
 use Rattle.hub.proofs.tp.viaductle_take.Statement.{statement}
 use Rattle.hub.proofs.tp.viaductle_take.Tie as tie
 
-stream-of-requires : tie.Need-stream-of-requires
-stream-of-requires c κs = search needs
-
-take-requires : tie.Need-take-requires
-take-requires c κs = search needs
-
-taken-answer-requires : tie.Need-taken-answer-requires
-taken-answer-requires c κs = search needs
-
-same-length : tie.Need-same-length
-same-length c = search needs
-
 returns : tie.Need-returns
 returns c =
-    let at-take = c .before .before .before in
+    let at-told = c .before in
+    let at-take = at-told .before .before .before .before in
+    let at-stream = at-take .before .before in
+    let a = at-stream .before .before .before .args in
+    taken-not (a .words .now) (a .buffer .now) _ (at-stream .stream-of .ensures) _ _ (at-take .take .ensures) _ _ (at-told .enum-told .given .1) (c .count-answer .ensures)
+
+add-length : tie.Need-add-length
+add-length c =
+    let at-answer = c .before in
+    let at-take = at-answer .before .before .before .before in
     let at-stream = at-take .before .before in
     let start = at-stream .before .before .before in
-    takes (start .args .words .now) (start .args .buffer .now) _ _ _ _ (at-stream .stream-of .ensures) (at-take .take .ensures) (c .taken-answer .ensures)
+    omega (arith, taken-low (start .args .words .now) (start .args .buffer .now) _ (at-stream .stream-of .ensures) _ _ (at-take .take .ensures) _ (at-answer .answer .given .1))
+
+returns-2 : tie.Need-returns-2
+returns-2 c =
+    let at-answer = c .before .before in
+    let at-take = at-answer .before .before .before .before in
+    let at-stream = at-take .before .before in
+    let a = at-stream .before .before .before .args in
+    taken (a .words .now) (a .buffer .now) _ (at-stream .stream-of .ensures) _ _ (at-take .take .ensures) _ _ (at-answer .answer .given .1) (c .count-answer2 .ensures)
 
 pub viaductle-take-spec : {M : Type 1} → statement M
 viaductle-take-spec =
-    tie.close (tie.spec stream-of-requires take-requires taken-answer-requires same-length returns)
+    tie.close
+    (tie.spec
+    (λ c κs. search needs)
+    (λ c κs. search needs)
+    (λ c. search needs)
+    (λ c. search needs)
+    (λ c κs. search needs)
+    (λ c. search needs)
+    returns
+    add-length
+    (λ c κs. search needs)
+    (λ c. search needs)
+    returns-2)

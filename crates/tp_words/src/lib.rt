@@ -8,9 +8,7 @@ ghost use mathlib.Core.Path.{_≡_};
 ghost use Prim.Native.Nat.{_≤_};
 ghost use mathlib.Core.List.{_∷_, _++_};
 ghost use lib.ListN.{length, take, drop};
-ghost use Rattle.tp_machine.specs.Machine.{most, previous, fresh as fresh-of};
-ghost use Rattle.tp_stream.specs.Stream.{stored, blank};
-ghost use Rattle.hub.specs.Words.{size, end-of, outside as outside-of, held-in, stream-of, known, flat, words-of, put as put-of};
+ghost use Rattle.tp_words.specs.Words.{size, end-of, unfit as unfit-of, outside as outside-of, held-in, stream-of, known, flat, put as put-of};
 
 // As many words as a state has.
 pub const WORDS: usize = 4 + 2 * MAX_RANGES;
@@ -32,30 +30,6 @@ fn known_of(end: TpEnd) -> u32
     match end {
         TpEnd::Unknown => 0,
         TpEnd::Known(_) => 1,
-    }
-}
-
-// The end that is known, or 0.
-fn number_of(end: TpEnd) -> u32
-    ensures { λ r. ⌜ r ≡ previous end ⌝ }
-{
-    match end {
-        TpEnd::Unknown => 0,
-        TpEnd::Known(e) => e,
-    }
-}
-
-// A stream that holds nothing.
-pub(crate) fn fresh(limit: u32) -> TpStream
-    ensures { λ r. ⌜ r ≡ stored blank (fresh-of limit) ⌝ }
-{
-    let none = TpRange { start: 0, end: 0 };
-    let ranges = [none; MAX_RANGES];
-    TpStream {
-        limit,
-        ranges,
-        count: 0,
-        end: TpEnd::Unknown,
     }
 }
 
@@ -96,14 +70,21 @@ fn held_in(words: &[u32]) -> TpStream
     }
 }
 
-// The same of any words: those that are too few, or do not tell whether an end is known, hold a malformed stream.
-pub(crate) fn stream_of(words: &[u32]) -> TpStream
-    ensures { λ r. ⌜ r ≡ stream-of (now (words .entry)) ⌝ }
+// Whether words are too few, or do not tell whether an end is known.
+pub fn unfit(words: &[u32]) -> bool
+    ensures { λ r. ⌜ r ≡ unfit-of (now (words .entry)) ⌝ }
 {
     if words.len() < WORDS {
-        return outside();
+        return true;
     }
-    if 1 < words[2] {
+    1 < words[2]
+}
+
+// The stream that any words hold: a malformed one where they are unfit.
+pub fn stream_of(words: &[u32]) -> TpStream
+    ensures { λ r. ⌜ r ≡ stream-of (now (words .entry)) ⌝ }
+{
+    if unfit(words) {
         return outside();
     }
     held_in(words)
@@ -134,12 +115,15 @@ fn put_front(words: &mut [u32], a: u32, b: u32, c: u32, d: u32)
     words[3] = d;
 }
 
-// A stream into the words that were lent; too few are left alone.
-pub(crate) fn put(words: &mut [u32], stream: TpStream)
-    requires { ⌜ stream .count ≤ most ⌝ }
+// A stream into the words that were lent. They are left alone where they are too few, or the stream counts more ranges than may be held (no
+// accepted call comes to one).
+pub fn put(words: &mut [u32], stream: TpStream)
     ensures { λ _. ⌜ now (words .exit) ≡ put-of (now (words .entry)) stream ⌝ }
 {
     if words.len() < WORDS {
+        return;
+    }
+    if MAX_RANGES < stream.count {
         return;
     }
     let end = stream.end;
@@ -148,7 +132,7 @@ pub(crate) fn put(words: &mut [u32], stream: TpStream)
         stream.limit,
         stream.count as u32,
         known_of(end),
-        number_of(end),
+        tp_stream::previous_end(end),
     );
     let ranges = stream.ranges;
     put_ranges(words, ranges);

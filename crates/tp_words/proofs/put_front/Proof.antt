@@ -1,13 +1,10 @@
--- `words::put_front` meets its contract. Assumes nothing.
+-- `tp_words::put_front` meets its contract. Assumes nothing.
 use native.Mathlib.Omega.{arith}
 use borrow.Author.Needs.{needs}
 use lib.ListN.{length-set}
-use Rattle.hub.proofs.WordLaws.{put-four}
-use Rattle.hub.proofs.words.put_front.Statement.{statement}
-use Rattle.hub.proofs.words.put_front.Tie as tie
-
-slice-write-words : tie.Need-slice-write-words
-slice-write-words c = search needs
+use Rattle.tp_words.proofs.WordLaws.{put-four}
+use Rattle.tp_words.proofs.put_front.Statement.{statement}
+use Rattle.tp_words.proofs.put_front.Tie as tie
 
 slice-write-words-2 : tie.Need-slice-write-words-2
 slice-write-words-2 c = simp length-set (omega arith)
@@ -18,9 +15,6 @@ slice-write-words-3 c = simp length-set (omega arith)
 slice-write-words-4 : tie.Need-slice-write-words-4
 slice-write-words-4 c = simp length-set (omega arith)
 
-same-length : tie.Need-same-length
-same-length c = search needs
-
 returns : tie.Need-returns
 returns c = put-four (c .args .words .now) _ _ _ _ (c .pre)
 
@@ -28,9 +22,9 @@ pub put-front-spec : {M : Type 1} → statement M
 put-front-spec =
     tie.close
     (tie.spec
-    slice-write-words
+    (λ c. search needs)
     slice-write-words-2
     slice-write-words-3
     slice-write-words-4
-    same-length
+    (λ c. search needs)
     returns)

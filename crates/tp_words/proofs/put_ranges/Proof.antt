@@ -1,13 +1,14 @@
--- `words::put_ranges` meets its contract. In the loop the first i ranges stand in the words. Assumes nothing.
+-- `tp_words::put_ranges` meets its contract. In the loop the first i ranges stand in the words. Assumes nothing.
 use Prim.Native.Nat.{_-_, _≤_}
-use mathlib.Core.Path.{_≡_, ap, _∙_}
+use mathlib.Core.Path.{_≡_, refl, ap, _∙_}
 use native.Mathlib.Omega.{arith}
 use borrow.Author.Needs.{needs}
 use lib.ListN.{length-set, length}
 use Rattle.tp_machine.specs.Machine.{most}
-use Rattle.hub.proofs.WordLaws.{laid-ends, laid, laid-starts, laid-length, laid-more}
-use Rattle.hub.proofs.words.put_ranges.Statement.{statement}
-use Rattle.hub.proofs.words.put_ranges.Tie as tie
+use Rattle.tp_words.specs.Words.{flat}
+use Rattle.tp_words.proofs.WordLaws.{laid-ends, laid, laid-starts, laid-length, laid-more}
+use Rattle.tp_words.proofs.put_ranges.Statement.{statement}
+use Rattle.tp_words.proofs.put_ranges.Tie as tie
 
 abbrev Inv-loop : tie.InvT-loop
 Inv-loop words₀ ranges i₀ words i = (i ≤ most) × (words ≡ laid words₀ ranges i)
@@ -27,47 +28,18 @@ long c =
 loop-holds : tie.Need-loop-holds Inv-loop μ-loop
 loop-holds c = (omega arith, laid-starts (c .args .words .now) (c .args .t2))
 
-mul-r : tie.Need-mul-r Inv-loop μ-loop
-mul-r c = omega arith
-
-array-copy-out-r : tie.Need-array-copy-out-r Inv-loop μ-loop
-array-copy-out-r c = omega arith
-
-mul-words : tie.Need-mul-words Inv-loop μ-loop
-mul-words c = omega arith
-
-add-words : tie.Need-add-words Inv-loop μ-loop
-add-words c = omega arith
-
-mul-words-2 : tie.Need-mul-words-2 Inv-loop μ-loop
-mul-words-2 c = omega arith
-
 slice-write-words : tie.Need-slice-write-words Inv-loop μ-loop
 slice-write-words c = omega (arith, long (c .before .before))
-
-mul-words-3 : tie.Need-mul-words-3 Inv-loop μ-loop
-mul-words-3 c = omega arith
-
-add-words-2 : tie.Need-add-words-2 Inv-loop μ-loop
-add-words-2 c = omega arith
-
-mul-words-4 : tie.Need-mul-words-4 Inv-loop μ-loop
-mul-words-4 c = omega arith
 
 slice-write-words-2 : tie.Need-slice-write-words-2 Inv-loop μ-loop
 slice-write-words-2 c = simp length-set (omega (arith, long (c .before .before)))
 
-add-i : tie.Need-add-i Inv-loop μ-loop
-add-i c = omega arith
-
-loop-less : tie.Need-loop-less Inv-loop μ-loop
-loop-less c = omega arith
-
 loop-again : tie.Need-loop-again Inv-loop μ-loop
+unfolding flat
 loop-again c =
     let at-loop = c .before .before in
     let a = at-loop .before .args in
-    (omega arith, laid-more (a .words .now) (a .t2) (omega (arith, at-loop .before .pre, many (at-loop .before))) (at-loop .loop .words) (at-loop .loop .i) (omega (arith, many (at-loop .before))) (at-loop .loop .inv .1))
+    (omega arith, laid-more (a .words .now) (a .t2) (omega (arith, at-loop .before .pre, many (at-loop .before))) (at-loop .loop .i) _ _ (omega (arith, many (at-loop .before))) refl (at-loop .loop .words) (at-loop .loop .inv .1))
 
 same-length : tie.Need-same-length Inv-loop μ-loop
 same-length c = long (c .before)
@@ -86,18 +58,18 @@ put-ranges-spec =
     Inv-loop
     μ-loop
     loop-holds
-    mul-r
-    array-copy-out-r
-    mul-words
-    add-words
-    mul-words-2
+    (λ c. omega arith)
+    (λ c. omega arith)
+    (λ c. omega arith)
+    (λ c. omega arith)
+    (λ c. omega arith)
     slice-write-words
-    mul-words-3
-    add-words-2
-    mul-words-4
+    (λ c. omega arith)
+    (λ c. omega arith)
+    (λ c. omega arith)
     slice-write-words-2
-    add-i
-    loop-less
+    (λ c. omega arith)
+    (λ c. omega arith)
     loop-again
     same-length
     returns)

@@ -7,8 +7,8 @@ use native.Mathlib.Omega.{arith}
 use lib.ListN.{length, take, drop, getD, set, length-append, length-drop, take-append-drop, drop-of-length-le}
 use lib.Seq.{drop-cons, take-suc, take-all, set-at, append-snoc, length-take-le, sets-eq}
 use Rattle.tp_machine.specs.declared.TpRange.{TpRange}
-use Rattle.tp_stream.specs.Stream.{none}
-use Rattle.hub.specs.Words.{pair-at, pairs, flat}
+use Rattle.tp_range.specs.Joining.{none}
+use Rattle.tp_words.specs.Words.{pair-at, pairs, flat}
 
 -- ---- pairs read one after the other into an array
 
@@ -25,9 +25,6 @@ pub read-starts : (ws : List ℕ) (rs : List TpRange) → rs ≡ read-in ws rs 0
 unfolding pairs
 read-starts ws rs = refl
 
-pub read-length : (ws : List ℕ) (rs : List TpRange) (i : ℕ) → i ≤ length rs → length (read-in ws rs i) ≡ length rs
-read-length ws rs i h = simp (length-append, length-drop, pairs-length) (omega arith)
-
 pub read-more : (ws : List ℕ) (rs l : List TpRange) (i : ℕ) → i < length rs → l ≡ read-in ws rs i → set l i (pair-at ws i) ≡ read-in ws rs (i + 1)
 unfolding pairs
 read-more ws rs l i h e =
@@ -43,7 +40,7 @@ read-ends ws rs l n h e =
 
 -- ---- ranges written one after the other into words
 
-flat-length : (rs : List TpRange) → length (flat rs) ≡ 2 * length rs
+pub flat-length : (rs : List TpRange) → length (flat rs) ≡ 2 * length rs
 unfolding flat
 flat-length [] = refl
 flat-length (r ∷ rs) = omega (arith, flat-length rs)
@@ -51,7 +48,7 @@ flat-length (r ∷ rs) = omega (arith, flat-length rs)
 flat-append : (rs qs : List TpRange) → flat (rs ++ qs) ≡ flat rs ++ flat qs
 unfolding flat
 flat-append [] qs = refl
-flat-append (r ∷ rs) qs = ap (λ (l : List ℕ). r .start ∷ r .end ∷ l) (flat-append rs qs)
+flat-append (r ∷ rs) qs = ap (λ (l : List ℕ). flat (r ∷ []) ++ l) (flat-append rs qs)
 
 -- the words with the first i ranges behind the first four
 abbrev pub front : List ℕ → List TpRange → ℕ → List ℕ
@@ -67,33 +64,32 @@ module _ (ws : List ℕ) (rs : List TpRange) (room : 4 + 2 * length rs ≤ lengt
   pub laid-length : (i : ℕ) → i ≤ length rs → length (laid ws rs i) ≡ length ws
   laid-length i h = omega (arith, length-append (front ws rs i) (drop (4 + 2 * i) ws), front-length i h, length-drop (4 + 2 * i) ws)
 
-  front-more : (i : ℕ) → i < length rs → front ws rs (i + 1) ≡ front ws rs i ++ (getD rs i none .start ∷ getD rs i none .end ∷ [])
-  unfolding flat
-  front-more i h =
-      ap (λ (n : ℕ). front ws rs n) (add-one i)
-      ∙ ap (λ (l : List TpRange). take 4 ws ++ flat l) (take-suc rs i none h)
-      ∙ ap (λ (l : List ℕ). take 4 ws ++ l) (flat-append (take i rs) (getD rs i none ∷ []))
-      ∙ sym (append-assoc (take 4 ws) (flat (take i rs)) (getD rs i none .start ∷ getD rs i none .end ∷ []))
+  -- one range more, of which the words are x and y
+  module _ (i x y : ℕ) (h : i < length rs) (two : flat (getD rs i none ∷ []) ≡ x ∷ y ∷ []) where
+    front-more : front ws rs (i + 1) ≡ front ws rs i ++ (x ∷ y ∷ [])
+    front-more =
+        ap (λ (n : ℕ). front ws rs n) (add-one i)
+        ∙ ap (λ (l : List TpRange). take 4 ws ++ flat l) (take-suc rs i none h)
+        ∙ ap (λ (l : List ℕ). take 4 ws ++ l) (flat-append (take i rs) (getD rs i none ∷ []) ∙ ap (λ (l : List ℕ). flat (take i rs) ++ l) two)
+        ∙ sym (append-assoc (take 4 ws) (flat (take i rs)) (x ∷ y ∷ []))
 
-  pub laid-more : (l : List ℕ) (i : ℕ) → i < length rs → l ≡ laid ws rs i
-      → set (set l (4 + 2 * i) (getD rs i none .start)) (5 + 2 * i) (getD rs i none .end) ≡ laid ws rs (i + 1)
-  laid-more l i h e =
-      let r : TpRange = getD rs i none in
-      let p : List ℕ = front ws rs i in
-      let len : length p ≡ 4 + 2 * i = front-length i (omega arith) in
-      let x : ℕ = getD ws (4 + 2 * i) 0 in
-      let y : ℕ = getD ws (suc (4 + 2 * i)) 0 in
-      let t : List ℕ = drop (suc (suc (4 + 2 * i))) ws in
-      let opened : l ≡ p ++ (x ∷ y ∷ t) =
-      e ∙ ap (λ (k : List ℕ). p ++ k) (drop-cons ws (4 + 2 * i) 0 (omega arith) ∙ ap (λ (k : List ℕ). x ∷ k) (drop-cons ws (suc (4 + 2 * i)) 0 (omega arith))) in
-      let longer : length (p ++ (r .start ∷ [])) ≡ 5 + 2 * i = omega (arith, length-append p (r .start ∷ [])) in
-      let next : suc (suc (4 + 2 * i)) ≡ 4 + 2 * (i + 1) = omega arith in
-      ap (λ (k : List ℕ). set (set k (4 + 2 * i) (r .start)) (5 + 2 * i) (r .end)) opened
-      ∙ ap (λ (k : List ℕ). set k (5 + 2 * i) (r .end)) (set-at p x (y ∷ t) (r .start) (4 + 2 * i) len ∙ sym (append-snoc p (r .start) (y ∷ t)))
-      ∙ set-at (p ++ (r .start ∷ [])) y t (r .end) (5 + 2 * i) longer
-      ∙ append-assoc p (r .start ∷ []) (r .end ∷ t)
-      ∙ sym (append-assoc p (r .start ∷ r .end ∷ []) t)
-      ∙ ap₂ {C = List ℕ} (λ (a : List ℕ) (n : ℕ). a ++ drop n ws) (sym (front-more i h)) next
+    pub laid-more : (l : List ℕ) → l ≡ laid ws rs i → set (set l (4 + 2 * i) x) (5 + 2 * i) y ≡ laid ws rs (i + 1)
+    laid-more l e =
+        let p : List ℕ = front ws rs i in
+        let len : length p ≡ 4 + 2 * i = front-length i (omega arith) in
+        let v : ℕ = getD ws (4 + 2 * i) 0 in
+        let w : ℕ = getD ws (suc (4 + 2 * i)) 0 in
+        let t : List ℕ = drop (suc (suc (4 + 2 * i))) ws in
+        let opened : l ≡ p ++ (v ∷ w ∷ t) =
+        e ∙ ap (λ (k : List ℕ). p ++ k) (drop-cons ws (4 + 2 * i) 0 (omega arith) ∙ ap (λ (k : List ℕ). v ∷ k) (drop-cons ws (suc (4 + 2 * i)) 0 (omega arith))) in
+        let longer : length (p ++ (x ∷ [])) ≡ 5 + 2 * i = omega (arith, length-append p (x ∷ [])) in
+        let next : suc (suc (4 + 2 * i)) ≡ 4 + 2 * (i + 1) = omega arith in
+        ap (λ (k : List ℕ). set (set k (4 + 2 * i) x) (5 + 2 * i) y) opened
+        ∙ ap (λ (k : List ℕ). set k (5 + 2 * i) y) (set-at p v (w ∷ t) x (4 + 2 * i) len ∙ sym (append-snoc p x (w ∷ t)))
+        ∙ set-at (p ++ (x ∷ [])) w t y (5 + 2 * i) longer
+        ∙ append-assoc p (x ∷ []) (y ∷ t)
+        ∙ sym (append-assoc p (x ∷ y ∷ []) t)
+        ∙ ap₂ {C = List ℕ} (λ (a : List ℕ) (n : ℕ). a ++ drop n ws) (sym front-more) next
 
 pub laid-starts : (ws : List ℕ) (rs : List TpRange) → ws ≡ laid ws rs 0
 unfolding flat

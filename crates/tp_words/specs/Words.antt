@@ -8,9 +8,9 @@ use lib.Dec.{ltb, eqb}
 use Rattle.tp_machine.specs.declared.TpRange.{TpRange}
 use Rattle.tp_machine.specs.declared.TpEnd.{TpEnd}
 use Rattle.tp_machine.specs.declared.TpEnd.the-variants.{Unknown, Known}
-use Rattle.tp_machine.specs.Machine.{most, previous}
+use Rattle.tp_machine.specs.Machine.{most, State, previous}
 use Rattle.tp_stream.specs.declared.TpStream.{TpStream}
-use Rattle.tp_stream.specs.Stream.{blank}
+use Rattle.tp_stream.specs.Stream.{view, blank}
 
 -- as many words as a state has
 abbrev pub size : ℕ
@@ -51,6 +51,10 @@ held-in ws =
 unfoldable pub stream-of : List ℕ → TpStream
 stream-of ws = cond (unfit ws) outside (held-in ws)
 
+-- the machine's state that they hold
+abbrev pub state-of : List ℕ → State
+state-of ws = view (stream-of ws)
+
 -- ---- the words of a state
 
 unfoldable pub flat : List TpRange → List ℕ
@@ -64,6 +68,10 @@ known (Known e) = 1
 unfoldable pub words-of : TpStream → List ℕ
 words-of s = s .limit ∷ s .count ∷ known (s .end) ∷ previous (s .end) ∷ flat (s .ranges)
 
--- a state put into lent words: too few are left alone, and so are those behind the state
+-- too few words, or a stream that counts more ranges than may be held (no accepted call comes to one)
+abbrev pub misfit : List ℕ → TpStream → Bool
+misfit ws s = ltb (length ws) size || ltb most (s .count)
+
+-- a stream put into lent words: where it does not fit they are left alone, and so are always those behind the state's
 unfoldable pub put : List ℕ → TpStream → List ℕ
-put ws s = cond (ltb (length ws) size) ws (words-of s ++ drop size ws)
+put ws s = cond (misfit ws s) ws (words-of s ++ drop size ws)
