@@ -1,5 +1,5 @@
--- Computed beside the marked cases: document 01's unmarked cases of service discovery and of configuration strings, and both sides of the lines
--- of lookup. The marked ones are in specs/Cases.antt. Assumes nothing: these are definitions.
+-- Computed beside the marked cases: document 01's unmarked cases of service discovery and of configuration strings, both sides of the lines of
+-- lookup, and the lent table. The marked ones are in specs/Cases.antt. Assumes nothing: these are definitions.
 use Prim.Native.Nat.{ℕ, zero, suc}
 use mathlib.Core.Path.{_≡_}
 use mathlib.Core.Bool.{true}
@@ -8,11 +8,11 @@ use lib.ListN.{length, replicate}
 use Rattle.numbers.specs.Bytes.{be32}
 use Rattle.numbers.specs.Answers.{accepted, given, _gives_with_}
 use Rattle.sd_format.specs.Strings.{read-string}
-use Rattle.sd_format.specs.Frames.{look-up}
+use Rattle.sd_format.specs.Frames.{table-after, read-index, look-up}
 use Rattle.sd_format.specs.Entries.{Entry, offer}
 use Rattle.sd_format.specs.Payload.{handed-out}
 use Rattle.sd_format.specs.Cases.{the-endpoint, payload-of}
-use Rattle.sd_format.specs.Order.{strict, payload, opened, no-entries, kept, no-terminator}
+use Rattle.sd_format.specs.Order.{strict, payload, opened, no-entries, kept, no-length, no-terminator}
 
 -- n options `00017780`, of four bytes each
 abbrev pub four-byte-options : ℕ → List ℕ
@@ -50,5 +50,9 @@ pub record Bounds : Type 0 where
   pub past-the-table : look-up (kept 0x77) (0 ∷ []) 2 1 gives 21 with []
   pub no-option : look-up (kept 0x77) (1 ∷ []) 1 0 gives 21 with []
   pub past-the-bytes : look-up (kept 0x77) (5 ∷ []) 1 0 gives 21 with []
+  -- the lent table: nines, of which one stands past the 347; after two options, after a refusal, and with one slot too few
+  pub table-filled : table-after (replicate 348 9) (read-index (kept 0x77 ++ kept 0x78)) ≡ 0 ∷ 4 ∷ (replicate 345 0 ++ (9 ∷ []))
+  pub table-cleared : table-after (replicate 348 9) (read-index no-length) ≡ replicate 347 0 ++ (9 ∷ [])
+  pub table-kept : table-after (replicate 346 9) (read-index (kept 0x77)) ≡ replicate 346 9
   -- the string is not scanned again
   pub not-scanned : given (λ f. f .type) (look-up no-terminator (0 ∷ []) 1 0) ≡ accepted 0x01
