@@ -147,6 +147,7 @@ pub record Theorems : Type 0 where
   pub good-means : GoodMeans
   pub accepted-means : AcceptedMeans
   pub complete-means : CompleteMeans
+  -- what is refused, and in which order
   pub rules-followed : RulesFollowed
   pub order : Order
   pub empties : Empties
