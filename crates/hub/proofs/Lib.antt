@@ -2,4 +2,8 @@ pub mod Arms
 pub mod TpLaws
 pub mod ToldLaws
 pub mod FieldLaws
+pub mod ItemLaws
 pub mod OneOutcome
+pub mod Telling
+pub mod HandedLaws
+pub mod OfTheHub

@@ -1,22 +1,13 @@
 -- Any two outcomes that a promise of an exported function allows are the same: answers, table, words and buffer. Where a promise is one equation
 -- for the answer (`viaductle_parts`, `lookup`, `next_option`, `next_of_run`, `string`, `read_option`, `read_entry`, `next_entry`, `complete`)
--- it is `same`. And what words that are unfit mean: 38, and nothing is written. Assumes nothing.
+-- it is `same`. Assumes nothing.
 use Prim.Native.Nat.{ℕ}
-use mathlib.Core.Path.{_≡_, refl, sym, ap, _∙_}
-use mathlib.Core.Bool.{Bool, true, cond}
-use mathlib.Core.List.{List, []}
-use Rattle.numbers.specs.Refusals.{malformed-state}
-use Rattle.numbers.proofs.AnswerLaws.{when-hit}
+use mathlib.Core.Path.{_≡_, sym, _∙_}
+use mathlib.Core.List.{List}
 use Rattle.numbers.specs.Answers as paper
 use Rattle.sd_format.specs.Payload.{Reading}
-use Rattle.tp_machine.specs.Machine.{Out, step, judged, bad-state}
-use Rattle.tp_machine.proofs.Steps.{step-refused}
-use Rattle.tp_stream.specs.declared.TpStream.{TpStream}
-use Rattle.tp_stream.specs.Stream.{view, blank, held}
 use Rattle.hub.specs.declared.answers.Answer.{Answer}
-use Rattle.hub.specs.Answers.{row, told, no-values}
-use Rattle.hub.specs.Words.{unfit, outside, held-in, stream-of}
-use Rattle.hub.specs.Tp.{state-of, Begins, kept, Consumes, Takes, Clears}
+use Rattle.hub.specs.Tp.{Begins, Consumes, Takes, Clears}
 use Rattle.hub.specs.Options.{Indexes}
 use Rattle.hub.specs.Payload.{Reads}
 
@@ -41,26 +32,3 @@ take-only ws buf r q c d a b = (same (a .answers) (b .answers), same (a .buffer)
 
 pub clear-only : (ws : List ℕ) (r q : Answer) (v w : List ℕ) → Clears ws r v → Clears ws q w → (r ≡ q) × (v ≡ w)
 clear-only ws r q v w a b = (same (a .answers) (b .answers), same (a .words) (b .words))
-
--- ---- words that are unfit
-
--- the state that they hold is malformed
-outside-bad : bad-state (view outside) ≡ true
-unfolding bad-state held blank
-outside-bad = refl
-
-holds-outside : (ws : List ℕ) → unfit ws ≡ true → stream-of ws ≡ outside
-unfolding stream-of
-holds-outside ws e = ap (λ (b : Bool). cond b outside (held-in ws)) e
-
--- a segment gets 38, and neither a word nor a byte changes
-pub unfit-consume : (ws seg buf : List ℕ) (r : Answer) (ws′ buf′ : List ℕ) → unfit ws ≡ true → Consumes ws seg buf r ws′ buf′ → (r ≡ row 38 []) × (ws′ ≡ ws) × (buf′ ≡ buf)
-unfolding judged
-unfit-consume ws seg buf r ws′ buf′ e c =
-    let bad : bad-state (state-of ws) ≡ true = ap (λ (s : TpStream). bad-state (view s)) (holds-outside ws e) ∙ outside-bad in
-    let left : step (state-of ws) seg buf ≡ record { answer = paper.refused malformed-state; state = state-of ws; buffer = buf } =
-    step-refused (state-of ws) seg buf malformed-state (when-hit malformed-state (bad-state (state-of ws)) _ bad) in (
-      c .answers ∙ ap (λ (o : Out). told no-values (o .answer)) left,
-      c .words ∙ ap (λ (o : Out). kept ws (o .answer) (o .state)) left,
-      c .buffer ∙ ap (λ (o : Out). o .buffer) left,
-    )

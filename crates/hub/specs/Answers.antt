@@ -1,6 +1,7 @@
 -- Answers as numbers: the rules' number, 0 for accepted, and the values that it gives, in their order. Assumes nothing: these are definitions.
 use Prim.Native.Nat.{ℕ, _+_}
 use mathlib.Core.List.{List, [], _∷_}
+use lib.ListN.{length}
 use Rattle.numbers.specs.Refusals.{Refusal}
 use Rattle.numbers.specs.Answers as paper
 use Rattle.sd_format.specs.Frames.{Frame}
@@ -45,6 +46,10 @@ located-values l = head-values (l .offset .0) (l .head)
 -- the same of an option as it stands in the part
 abbrev pub option-values : (at : ℕ) → Frame → List ℕ
 option-values at f = f .type ∷ at ∷ Frames.size f ∷ []
+
+-- an item whose length byte stands at `at`: where its bytes start, and how many they are
+abbrev pub item-values : (at : ℕ) → List ℕ → List ℕ
+item-values at item = (at + 1) ∷ length item ∷ []
 
 -- the report is as long as the message's header and its payload, which ends there
 abbrev pub report-values : ℕ → List ℕ

@@ -3,3 +3,5 @@ pub mod Tp
 pub mod Options
 pub mod Entries
 pub mod Payload
+pub mod Telling
+pub mod OfTheHub

@@ -1,6 +1,7 @@
 // The options part and one option, as exported to C.
 use crate::answers::Answer;
 use crate::answers::accepted;
+use crate::answers::answer_of;
 use crate::answers::bit;
 use crate::answers::count_answer;
 use crate::answers::found_answer;
@@ -8,6 +9,9 @@ use crate::answers::option_answer;
 use crate::answers::refused;
 use crate::answers::verdict_answer;
 use config_string::check_string;
+use config_string::next_item;
+use refusal::Count;
+use refusal::two;
 use sd_field::FieldsAnswer;
 use sd_field::IpAddress;
 use sd_field::OptionFirst;
@@ -29,8 +33,9 @@ ghost use mathlib.Core.List.{List};
 ghost use Rattle.sd_format.specs.Layout.{address-length};
 ghost use Rattle.numbers.specs.Answers.{verdict};
 ghost use Rattle.sd_format.specs.Strings.{read-string};
+ghost use Rattle.config_string.specs.Items.{next-item};
 ghost use Rattle.sd_field.specs.Said.{first-said, address-said, option-said};
-ghost use Rattle.hub.specs.Answers.{told, no-values, option-values};
+ghost use Rattle.hub.specs.Answers.{told, no-values, option-values, item-values};
 ghost use Rattle.hub.specs.Options.{Indexes, nowhere, behind-first, fields, option-fields, no-option, read-option-told};
 
 // The index alone: 22, 13, then the options from the front; their offsets into the lent table, and how many there are.
@@ -91,6 +96,22 @@ pub extern "C" fn viaductle_string(string: &[u8]) -> Answer
     ensures { λ r. ⌜ r ≡ told no-values (verdict (read-string (now (string .entry)))) ⌝ }
 {
     verdict_answer(check_string(string))
+}
+
+// The item at a place of a configuration string: where its bytes start, and how many they are; 20 at the closing zero and with no bytes left,
+// otherwise 9. To go through all: begin at 0, and go on behind the item's bytes.
+#[no_mangle]
+pub extern "C" fn viaductle_next_item(string: &[u8], at: usize) -> Answer
+    ensures { λ r. ⌜ r ≡ told (item-values at) (next-item (now (string .entry)) at) ⌝ }
+{
+    let answer = next_item(string, at);
+    match answer {
+        Count::Good(next) => {
+            let start = at + 1;
+            answer_of(two(0, start as u64, (next - start) as u64))
+        }
+        Count::Refused(refusal) => refused(refusal),
+    }
 }
 
 // One option: the answer of its reading, and then its fields. Those that its kind has not hold 0, and so do all after a refusal.

@@ -16,7 +16,7 @@ use Rattle.refusal.specs.Rows.{row, Data, Rows}
 
 -- ---- values in their places
 
-padded-front : (n : ℕ) (vs : List ℕ) → length vs ≤ n → take (length vs) (padded n vs) ≡ vs
+pub padded-front : (n : ℕ) (vs : List ℕ) → length vs ≤ n → take (length vs) (padded n vs) ≡ vs
 padded-front n [] h = refl
 padded-front zero (v ∷ vs) h = absurd (omega arith)
 padded-front (suc n) (v ∷ vs) h = ap (λ (l : List ℕ). v ∷ l) (padded-front n vs (le-of-suc-le-suc h))
@@ -26,7 +26,7 @@ padded-none zero i = refl
 padded-none (suc n) zero = refl
 padded-none (suc n) (suc i) = padded-none n i
 
-padded-behind : (n : ℕ) (vs : List ℕ) (i : ℕ) → length vs ≤ i → getD (padded n vs) i 0 ≡ 0
+pub padded-behind : (n : ℕ) (vs : List ℕ) (i : ℕ) → length vs ≤ i → getD (padded n vs) i 0 ≡ 0
 padded-behind n [] i h = padded-none n i
 padded-behind zero (v ∷ vs) i h = refl
 padded-behind (suc n) (v ∷ vs) zero h = absurd (omega arith)
@@ -92,5 +92,6 @@ rows =
       verdict-refused = λ r. ap refused (case r .says);
       counted = λ n. refl;
       count-refused = λ r. ap refused (case r .says);
+      few = λ r. case r .few;
       data-of = λ r. subst (λ (q : paper.Refusal). Data (row r) (laid q)) (sym (case r .says)) (data-laid (row r) (case r .few));
     }

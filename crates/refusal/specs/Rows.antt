@@ -14,7 +14,7 @@ use Rattle.refusal.specs.declared.Refusal.the-variants as code
 use Rattle.refusal.specs.declared.answers.Verdict.the-variants as verdict
 use Rattle.refusal.specs.declared.answers.Count.the-variants as count
 use Rattle.refusal.specs.declared.values.Numbers.{Numbers}
-use Rattle.refusal.specs.Said.{said, verdict-said, count-said, laid}
+use Rattle.refusal.specs.Said.{said, verdict-said, count-said, places, laid}
 
 -- a refusal's number and values
 abbrev pub row : Refusal → paper.Refusal
@@ -72,5 +72,6 @@ pub record Rows : Type 0 where
   pub verdict-refused : (r : Refusal) → verdict-said (verdict.Refused r) ≡ refused (row r)
   pub counted : (n : ℕ) → count-said (count.Good n) ≡ accepted n
   pub count-refused : (r : Refusal) → count-said (count.Refused r) ≡ refused (row r)
-  -- as data
+  -- as data: there are places for all values
+  pub few : (r : Refusal) → length (row r .values) ≤ places
   pub data-of : (r : Refusal) → Data (row r) (laid (said r))

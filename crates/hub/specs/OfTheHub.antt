@@ -1,0 +1,49 @@
+-- Demand 3 of what C calls: what is so of every outcome that the promises of the exported functions allow, all for what was laid out;
+-- proofs/OfTheHub.antt proves it. Places are counted in the layout, and no word of the reading stands here. Assumes nothing: these are definitions.
+use Prim.Native.Nat.{ℕ, _*_, _≤_}
+use mathlib.Core.Path.{_≡_}
+use mathlib.Core.Bool.{cond}
+use mathlib.Core.List.{List, [], _∷_}
+use lib.ListN.{length, take, drop, getD}
+use lib.Dec.{eqb}
+use Rattle.numbers.specs.Answers.{accepted}
+use Rattle.sd_format.specs.Sequences.{counted}
+use Rattle.sd_format.specs.Options.{Opt}
+use Rattle.sd_format.specs.Frames.{look-up, next-option, next-of-run}
+use Rattle.sd_format.specs.Entries.{Entry, next-entry}
+use Rattle.sd_format.specs.Layout.{lay-option, lay-entries, lay-options}
+use Rattle.sd_index.specs.Steps.{run-of}
+use Rattle.hub.specs.declared.answers.Answer.{Answer}
+use Rattle.hub.specs.declared.entries.Entry as exported
+use Rattle.hub.specs.declared.options.Option.{Option}
+use Rattle.hub.specs.Answers.{row, told, option-values}
+use Rattle.hub.specs.Entries.{entry-told}
+use Rattle.hub.specs.Options.{option-fields, read-option-told}
+
+-- where option k starts in the options part: behind the layouts of those before it
+abbrev pub start : List Opt → ℕ → ℕ
+start os k = length (lay-options (take k os))
+
+-- what is told of an option that starts at `at`: its type byte, where it starts, and how many bytes its layout has
+abbrev pub laid-values : (at : ℕ) → Opt → List ℕ
+laid-values at o = getD (lay-option o) 2 0 ∷ at ∷ length (lay-option o) ∷ []
+
+-- what is told of option k: 20 at or past the end
+abbrev pub told-of : List Opt → ℕ → Answer
+told-of os k = told (laid-values (start os k)) (counted os k)
+
+-- What C is told of the entries `es` and the options `os` of a payload that was accepted, over its two parts and the table `tab` that was left.
+-- Each `r` is any outcome that the call's promise allows.
+pub record HandedToC (es : List Entry) (os : List Opt) (tab : List ℕ) : Type 0 where
+  -- viaductle_next_entry at 16 k gives entry k with its own fields, and 20 behind the last
+  pub entries : (k : ℕ) (r : exported.Entry) → r ≡ entry-told (next-entry (lay-entries es) (16 * k)) → r ≡ entry-told (counted es k)
+  -- viaductle_lookup of any number gives what counting from the front gives
+  pub looked-up : (k : ℕ) (r : Answer) → r ≡ told (option-values (getD tab k 0)) (look-up (lay-options os) tab (length os) k) → r ≡ told-of os k
+  -- viaductle_next_option where option k starts gives option k, and 20 at the end
+  pub options : (k : ℕ) → k ≤ length os → (r : Answer) → r ≡ told (option-values (start os k)) (next-option (lay-options os) (start os k)) → r ≡ told-of os k
+  -- viaductle_next_of_run gives the option of that number as long as some of the run are left, and 20 then
+  pub runs : (next left : ℕ) (r : Answer) → r ≡ told (option-values (getD tab next 0)) (next-of-run (lay-options os) tab (length os) (run-of next left))
+      → r ≡ cond (eqb left 0) (row 20 []) (told-of os next)
+  -- viaductle_read_option where option k starts gives its own fields
+  pub fields : (k : ℕ) (o : Opt) → counted os k ≡ accepted o → (r : Option) → r ≡ read-option-told (drop (start os k) (lay-options os))
+      → r ≡ option-fields (length (lay-option o)) o
