@@ -1,19 +1,20 @@
-/* Viaductle: SOME/IP service discovery payloads read, SOME/IP-TP segments joined. Every function here is proved to give the answer that its
- * rule says, for every input. What is proved is stated in crates/hub/specs; the rules' numbers and values are in docs/.
+/* Viaductle: SOME/IP service discovery payloads read, SOME/IP-TP segments joined. Every function that the library has is proved to give the
+ * answer that the rules say, for every input. The rules, their numbers and values are in docs/RULES.md; what is proved of these functions is
+ * stated in crates/hub/specs.
  *
- * Link target/staticlib/libhub.a, which `rt staticlib hub` writes (x86-64, System V). It calls memcpy and memset, as compiled code does, and
- * nothing else: no heap, no threads, no global state. examples/c has a program, and `examples/c/run` compiles and runs it.
+ * Link libviaductle.a (x86-64, System V), which `tools/library` writes to target/staticlib, with viaductle.pc for pkg-config; libhub.a there is
+ * the same archive. It calls memcpy and memset, as compiled code does, and nothing else: no heap, no threads, no global state. examples/c has
+ * a program, and `examples/c/run` compiles and runs it.
  *
  * What a caller must see to, since C cannot say it:
  *   - A pointer and a length are one array that is there, the length in elements. The pointer is aligned and never null, also where the
  *     length is 0 (any array's address will do).
  *   - An array that is written (`table`, `state`, `buffer`) shares no byte with another argument.
- *   - A `bool` holds 0 or 1.
- * Nothing else is asked: any bytes, any table, any count, any state gets an answer, and no call reads or writes outside what it was lent. */
+ * Nothing else is asked: any bytes, any table, any count, any state, any answer handed in gets an answer, and no call reads or writes outside
+ * what it was lent. */
 #ifndef VIADUCTLE_H
 #define VIADUCTLE_H
 
-#include <stdbool.h>
 #include <stddef.h>
 #include <stdint.h>
 
@@ -21,12 +22,21 @@
 extern "C" {
 #endif
 
+/* The version of this header and of the library that belongs to it. */
+#define VIADUCTLE_VERSION_MAJOR 0
+#define VIADUCTLE_VERSION_MINOR 1
+#define VIADUCTLE_VERSION_PATCH 0
+#define VIADUCTLE_VERSION "0.1.0"
+
 /* ---- answers */
+
+/* As many values as an answer has at most. */
+#define VIADUCTLE_VALUES 4
 
 /* 0 for accepted, or the number of the first refusal; and the values that come with it, in order. Places that are not used hold 0. */
 typedef struct {
     uint64_t number;
-    uint64_t value0, value1, value2, value3;
+    uint64_t values[VIADUCTLE_VALUES];
 } viaductle_answer;
 
 /* The numbers, each with its values. */
@@ -75,43 +85,104 @@ enum viaductle_string_error {
     VIADUCTLE_KEY_CONTAINS_ONLY_WHITESPACE = 6      /* item */
 };
 
+/* A number in words, for a log; of 9, `viaductle_string_name` of values[0] says more. Neither is in the library. */
+static inline const char *viaductle_name(uint64_t number) {
+    switch (number) {
+    case VIADUCTLE_ACCEPTED: return "accepted";
+    case VIADUCTLE_UNEXPECTED_END_OF_SLICE: return "bytes end too soon";
+    case VIADUCTLE_ENTRIES_LENGTH_TOO_LARGE: return "entries length too large";
+    case VIADUCTLE_ENTRIES_LENGTH_UNEVEN: return "entries length no multiple of 16";
+    case VIADUCTLE_OPTIONS_LENGTH_TOO_LARGE: return "options length too large";
+    case VIADUCTLE_PAYLOAD_TOO_LARGE: return "payload too large";
+    case VIADUCTLE_PAYLOAD_LENGTH_MISMATCH: return "payload length mismatch";
+    case VIADUCTLE_OPTION_LENGTH: return "option length does not fit";
+    case VIADUCTLE_OPTION_LENGTH_ZERO: return "option of length 0";
+    case VIADUCTLE_CONFIGURATION_STRING: return "configuration string wrong";
+    case VIADUCTLE_UNKNOWN_OPTION: return "unknown option that may not be discarded";
+    case VIADUCTLE_UNKNOWN_ENTRY: return "unknown entry type";
+    case VIADUCTLE_RUN_OUT_OF_BOUNDS: return "run leaves the list of options";
+    case VIADUCTLE_INDEX_TOO_LARGE: return "too many bytes of options for an index";
+    case VIADUCTLE_MESSAGE_ID: return "not a service discovery message";
+    case VIADUCTLE_CLIENT_ID: return "client id is not 0";
+    case VIADUCTLE_SESSION_ZERO: return "session id is 0";
+    case VIADUCTLE_INTERFACE_VERSION: return "interface version is not 1";
+    case VIADUCTLE_MESSAGE_TYPE: return "message type is not a notification";
+    case VIADUCTLE_RETURN_CODE: return "return code is not 0";
+    case VIADUCTLE_NOTHING_THERE: return "nothing there";
+    case VIADUCTLE_TABLE_MISFIT: return "table does not fit these bytes";
+    case VIADUCTLE_FEW_SLOTS: return "table has too few slots";
+    case VIADUCTLE_NOT_A_SEGMENT: return "not a TP segment";
+    case VIADUCTLE_SEGMENT_TOO_BIG: return "segment passes the payload limit";
+    case VIADUCTLE_UNALIGNED: return "more follows, and segment length no multiple of 16";
+    case VIADUCTLE_CONFLICTING_END: return "two ends of one report";
+    case VIADUCTLE_BUFFER_TOO_SHORT: return "buffer too short";
+    case VIADUCTLE_RANGES_FULL: return "too many gaps, no room for another range";
+    case VIADUCTLE_LIMIT_TOO_LARGE: return "payload limit too large";
+    case VIADUCTLE_NOT_COMPLETE: return "report not complete";
+    case VIADUCTLE_MALFORMED_STATE: return "malformed stream state";
+    default: return "number unknown to this header";
+    }
+}
+
+static inline const char *viaductle_string_name(uint64_t error) {
+    switch (error) {
+    case VIADUCTLE_MISSING_TERMINATOR: return "no closing zero byte";
+    case VIADUCTLE_ITEM_LENGTH_EXCEEDS_REMAINING: return "item longer than the string";
+    case VIADUCTLE_TRAILING_DATA_AFTER_TERMINATOR: return "bytes behind the closing zero byte";
+    case VIADUCTLE_EMPTY_KEY: return "nothing before the '='";
+    case VIADUCTLE_INVALID_KEY_BYTE: return "key byte outside 0x20 to 0x7e";
+    case VIADUCTLE_KEY_CONTAINS_ONLY_WHITESPACE: return "key of spaces only";
+    default: return "error unknown to this header";
+    }
+}
+
 /* ---- service discovery: whole payloads */
 
 /* Slots of the table that reading fills with the options' byte offsets. */
 #define VIADUCTLE_SLOTS 347
 
+/* The bits of `settings`, 0 for none of them. Bits without a name are ignored. */
+#define VIADUCTLE_DISCARD 0x1u /* unknown options are accepted although they may not be discarded, so 10 is not given */
+
 /* A whole payload.
- *   0: value0 = the three flags of byte 0 as sent (0x80 reboot, 0x40 unicast, 0x20 explicit initial data control), value1 = how many
- *      entries, value2 = how many options.
+ *   0: values[0] = the three flags of byte 0 as sent (0x80 reboot, 0x40 unicast, 0x20 explicit initial data control), values[1] = how many
+ *      entries, values[2] = how many options.
  *   22, 1 to 6, then the options from the front (7, 8, 9), then 10, then the entries from the front (11, 12). The first refusal counts.
- * `discard`: unknown options are accepted although they may not be discarded, so 10 is not given.
- * The table: after 0, slots 0 to value2 - 1 hold the offsets and the rest of the 347 hold 0; after a refusal all 347 hold 0; after 22
+ * The table: after 0, slots 0 to values[2] - 1 hold the offsets and the rest of the 347 hold 0; after a refusal all 347 hold 0; after 22
  * nothing has changed. Slots past 347 are never touched. */
-viaductle_answer viaductle_read(const uint8_t *payload, size_t len, uint16_t *table, size_t slots, bool discard);
+viaductle_answer viaductle_read(const uint8_t *payload, size_t len, uint16_t *table, size_t slots, uint32_t settings);
 
 /* A message with its SOME/IP header of 16 bytes: 22, 1 with 16, 14 to 19, and then all later bytes as `viaductle_read` does. The length
  * field and the protocol version are not judged. */
-viaductle_answer viaductle_read_message(const uint8_t *message, size_t len, uint16_t *table, size_t slots, bool discard);
+viaductle_answer viaductle_read_message(const uint8_t *message, size_t len, uint16_t *table, size_t slots, uint32_t settings);
 
-/* Where the parts of a payload are. Only its sizes are judged: 1 to 6.
- *   0: value0 = where the entries part starts (8), value1 = its length, value2 = where the options part starts, value3 = its length.
- * The functions below take these parts: `payload + value0, value1` and `payload + value2, value3`. */
-viaductle_answer viaductle_parts(const uint8_t *payload, size_t len);
+/* Where the two parts of a payload start, and how many bytes they have. */
+typedef struct {
+    uint64_t entries_at, entries_len;
+    uint64_t options_at, options_len;
+} viaductle_places;
+
+/* The parts of a payload that was read with this answer; of an accepted message the payload is `message + 16, len - 16`. After a refusal all
+ * four numbers are 0, so that both parts are empty, and so they are where these bytes' own sizes are refused (1 to 6).
+ * The functions below take these parts: `payload + entries_at, entries_len` and `payload + options_at, options_len`. */
+viaductle_places viaductle_parts(const uint8_t *payload, size_t len, viaductle_answer answer);
 
 /* ---- service discovery: the options part */
 
 /* The offsets of all options of an options part, unknown ones whether they may be discarded or not.
- *   0: value0 = how many options.
+ *   0: values[0] = how many options.
  *   22, 13, then the options from the front (7, 8, 9). The table is left as by `viaductle_read`. */
 viaductle_answer viaductle_index(const uint8_t *options, size_t len, uint16_t *table, size_t slots);
 
 /* The option of number `ordinal`, from 0, among `count`, by a table. Its configuration string is not scanned again, and nothing is written.
- *   0: value0 = its type, value1 = where it starts in the options part, value2 = how many bytes it takes (3 more than its length field).
- *      The bytes after its type are value1 + 3 up to value1 + value2; `viaductle_read_option` of `options + value1` gives its fields.
+ *   0: values[0] = its type, values[1] = where it starts in the options part, values[2] = how many bytes it takes (3 more than its length
+ *      field). The bytes after its type are values[1] + 3 up to values[1] + values[2]; `viaductle_read_option` of `options + values[1]` gives
+ *      its fields.
  *   20 at or past `count`; 21 past the table's 347 slots or those that were lent, or where no option stands at the slot's offset. */
 viaductle_answer viaductle_lookup(const uint8_t *options, size_t len, const uint16_t *table, size_t slots, size_t count, size_t ordinal);
 
-/* The option that starts at byte `at` of the options part, its string scanned. To go through all: begin at 0, and go on at value1 + value2.
+/* The option that starts at byte `at` of the options part, its string scanned. To go through all: begin at 0, and go on at values[1]
+ * + values[2].
  *   0: as `viaductle_lookup`. 20 with no bytes left, otherwise 7, 8, 9. */
 viaductle_answer viaductle_next_option(const uint8_t *options, size_t len, size_t at);
 
@@ -125,7 +196,7 @@ viaductle_answer viaductle_string(const uint8_t *string, size_t len);
 
 /* One option with its fields: those that its kind has not hold 0, and so do all after a refusal. */
 typedef struct {
-    uint64_t number, value0, value1, value2, value3; /* as in viaductle_answer; after 0 the values hold 0 */
+    uint64_t number, values[VIADUCTLE_VALUES];       /* as in viaductle_answer; after 0 the values hold 0 */
     uint64_t type;
     uint64_t size;                                   /* bytes that it takes */
     uint64_t discardable;                            /* 1 or 0 */
@@ -142,7 +213,7 @@ viaductle_option viaductle_read_option(const uint8_t *option, size_t len);
 
 /* One entry with its fields: those that its kind has not hold 0, and so do all after a refusal. */
 typedef struct {
-    uint64_t number, value0, value1, value2, value3; /* as in viaductle_answer; after 0 the values hold 0 */
+    uint64_t number, values[VIADUCTLE_VALUES];       /* as in viaductle_answer; after 0 the values hold 0 */
     uint64_t type;                                   /* 0x00 find, 0x01 offer, 0x06 subscribe, 0x07 subscribe ack */
     uint64_t start1, start2, count1, count2;         /* the two runs of options */
     uint64_t service, instance, major, ttl;
@@ -178,16 +249,17 @@ viaductle_answer viaductle_begin(uint32_t *state, size_t words, uint32_t limit);
  *   38, 30, 31, 32, 33, 34, 35; then state and buffer are as they were. */
 viaductle_answer viaductle_consume(uint32_t *state, size_t words, const uint8_t *segment, size_t len, uint8_t *buffer, size_t room);
 
-/* Whether all segments are there. 0: value0 = 1 or 0. A malformed state, and one of fewer words, is not complete. */
+/* Whether all segments are there. 0: values[0] = 1 or 0. A malformed state, and one of fewer words, is not complete. */
 viaductle_answer viaductle_complete(const uint32_t *state, size_t words);
 
 /* The whole message. The state stays.
- *   0: value0 = its length; it is the first value0 bytes of the buffer, its length field written.
+ *   0: values[0] = its length; it is the first values[0] bytes of the buffer, its length field written.
  *   38, 37, 34; then the buffer is as it was. */
 viaductle_answer viaductle_take(const uint32_t *state, size_t words, uint8_t *buffer, size_t room);
 
-/* Ranges and end are forgotten, whatever the state was, and the limit is kept; no byte of the buffer is touched.
- *   0. 38 with fewer words than 68, and nothing is written. */
+/* Ranges and end are forgotten and the limit is kept; pairs that hold no range any more stay as they are. No byte of the buffer is touched.
+ *   0, also where the ranges or the end were malformed.
+ *   38 where the words hold no stream, and then nothing is written: fewer than 68, or neither 0 nor 1 where they tell whether an end is known. */
 viaductle_answer viaductle_clear(uint32_t *state, size_t words);
 
 #ifdef __cplusplus

@@ -257,7 +257,7 @@ fn reading<P: Calls>(port: &P, meter: &Meter, payloads: &[&Vec<u8>]) -> (f64, f6
             for payload in payloads {
                 let mut table = [0; SLOTS];
                 black_box(&mut table);
-                let read = port.read(black_box(payload), &mut table, false);
+                let read = port.read(black_box(payload), &mut table, 0);
                 black_box((&read, &table));
             }
         },

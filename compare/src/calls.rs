@@ -1,18 +1,21 @@
-//! The calls that are compared, with their answers as document 01's numbers and values.
+//! The calls that are compared, with their answers as the rules' numbers and values.
 //! `port.rs` answers them by the exported functions; `sabotage.rs` by those with a fault.
 
-/// Document 01's number, 0 for accepted, and its values in order; unused ones are 0.
+/// As many values as an answer has at most.
+pub const VALUES: usize = 4;
+
+/// The rules' number, 0 for accepted, and its values in order; unused ones are 0.
 #[derive(Clone, Copy, Debug, Default, PartialEq, Eq)]
 #[repr(C)]
 pub struct Answer {
     pub number: u64,
-    pub values: [u64; 4],
+    pub values: [u64; VALUES],
 }
 
 impl Answer {
     /// A number with its values.
     pub fn new(number: u64, values: &[u64]) -> Answer {
-        let mut all = [0; 4];
+        let mut all = [0; VALUES];
         all[..values.len()].copy_from_slice(values);
         Answer {
             number,
@@ -24,7 +27,7 @@ impl Answer {
         self.number == 0
     }
 
-    /// How many values document 01 gives with this number (nothing is said of 0, which differs by call).
+    /// How many values the rules give with this number (nothing is said of 0, which differs by call).
     pub fn value_count(self) -> usize {
         match self.number {
             8 | 16 | 20 | 21 | 30 | 35 | 37 | 38 => 0,
@@ -36,7 +39,8 @@ impl Answer {
                 3 | 4 | 6 => 2,
                 _ => 4,
             },
-            _ => 4,
+            12 => 4,
+            _ => VALUES,
         }
     }
 }
@@ -44,7 +48,7 @@ impl Answer {
 /// No option or entry at this place.
 pub const NOTHING: Answer = Answer {
     number: 20,
-    values: [0; 4],
+    values: [0; VALUES],
 };
 
 /// One entry with all its fields; those that its kind has not are 0, and all are 0 after a refusal.
@@ -87,6 +91,18 @@ pub struct Opt {
     pub string_len: u64,
 }
 
+/// Where the two parts of a payload start and how many bytes they have; all 0 after a refusal.
+#[derive(Clone, Copy, Debug, Default, PartialEq, Eq)]
+#[repr(C)]
+pub struct Places {
+    pub entries_at: u64,
+    pub entries_len: u64,
+    pub options_at: u64,
+    pub options_len: u64,
+}
+
+/// The bit of the settings by which unknown options pass though they may not be discarded.
+pub const DISCARD: u32 = 0x1;
 /// The slots of a table that a reading fills.
 pub const SLOTS: usize = 347;
 /// The words of a stream's state: limit, count of ranges, whether an end is known, the end, 32 pairs of start and end.
@@ -96,10 +112,10 @@ pub const MOST_LIMIT: u32 = 65_520;
 
 /// One method for each exported function.
 pub trait Calls: Sync {
-    fn read(&self, payload: &[u8], table: &mut [u16], discard: bool) -> Answer;
-    fn read_message(&self, message: &[u8], table: &mut [u16], discard: bool) -> Answer;
+    fn read(&self, payload: &[u8], table: &mut [u16], settings: u32) -> Answer;
+    fn read_message(&self, message: &[u8], table: &mut [u16], settings: u32) -> Answer;
     fn index(&self, options: &[u8], table: &mut [u16]) -> Answer;
-    fn parts(&self, payload: &[u8]) -> Answer;
+    fn parts(&self, payload: &[u8], answer: Answer) -> Places;
     fn lookup(&self, options: &[u8], table: &[u16], count: usize, ordinal: usize) -> Answer;
     fn next_option(&self, options: &[u8], at: usize) -> Answer;
     fn next_of_run(

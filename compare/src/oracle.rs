@@ -1,7 +1,7 @@
 //! What the crate someip_parse says, as document 01's numbers and values; one function for each call.
 //! Nothing is judged here: errors are renamed, and slices become the places where they lie.
 
-use crate::calls::{Answer, Entry, Opt, NOTHING, SLOTS};
+use crate::calls::{Answer, Entry, Opt, Places, NOTHING, SLOTS};
 use someip_parse::err::{LenError, LenSource, SdError, SdOptionSliceError, SdSliceError};
 use someip_parse::sd::entries::U4;
 use someip_parse::sd::options::{self, ConfigurationOption, SdConfigurationStringError};
@@ -147,6 +147,29 @@ pub fn fill_table(index: &SdOptionsIndex, table: &mut [u16; SLOTS]) {
 /// Where a part of `whole` begins.
 pub fn place_in(whole: &[u8], part: &[u8]) -> usize {
     (part.as_ptr() as usize).wrapping_sub(whole.as_ptr() as usize)
+}
+
+/// Where the crate's two parts of an accepted payload are.
+pub fn places(payload: &[u8], sd: &SdSlice) -> Places {
+    let (entries, options) = (sd.entries_slice(), sd.options_index().options());
+    Places {
+        entries_at: wide(place_in(payload, entries)),
+        entries_len: wide(entries.len()),
+        options_at: wide(place_in(payload, options)),
+        options_len: wide(options.len()),
+    }
+}
+
+/// Where they are in a payload whose sizes are good, whatever else is wrong: the crate hands out no part there.
+pub fn places_by_sizes(payload: &[u8]) -> Places {
+    let length = [payload[4], payload[5], payload[6], payload[7]];
+    let entries = u64::from(u32::from_be_bytes(length));
+    Places {
+        entries_at: 8,
+        entries_len: entries,
+        options_at: 12 + entries,
+        options_len: wide(payload.len()) - 12 - entries,
+    }
 }
 
 // ---- one option

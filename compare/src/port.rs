@@ -1,7 +1,7 @@
 //! Viaductle's exported functions (include/viaductle.h) behind safe wrappers. Every call is sound for every input: the functions ask nothing
 //! of their arguments but slices that are there.
 
-use crate::calls::{Answer, Calls, Entry, Opt};
+use crate::calls::{Answer, Calls, Entry, Opt, Places};
 
 extern "C" {
     fn viaductle_read(
@@ -9,17 +9,17 @@ extern "C" {
         len: usize,
         table: *mut u16,
         slots: usize,
-        discard: bool,
+        settings: u32,
     ) -> Answer;
     fn viaductle_read_message(
         message: *const u8,
         len: usize,
         table: *mut u16,
         slots: usize,
-        discard: bool,
+        settings: u32,
     ) -> Answer;
     fn viaductle_index(options: *const u8, len: usize, table: *mut u16, slots: usize) -> Answer;
-    fn viaductle_parts(payload: *const u8, len: usize) -> Answer;
+    fn viaductle_parts(payload: *const u8, len: usize, answer: Answer) -> Places;
     fn viaductle_lookup(
         options: *const u8,
         len: usize,
@@ -62,26 +62,26 @@ pub struct Hub;
 // SAFETY, for each call: pointer and length are those of one Rust slice, mutable where the function writes.
 impl Calls for Hub {
     #[inline]
-    fn read(&self, payload: &[u8], table: &mut [u16], discard: bool) -> Answer {
+    fn read(&self, payload: &[u8], table: &mut [u16], settings: u32) -> Answer {
         unsafe {
             viaductle_read(
                 payload.as_ptr(),
                 payload.len(),
                 table.as_mut_ptr(),
                 table.len(),
-                discard,
+                settings,
             )
         }
     }
 
-    fn read_message(&self, message: &[u8], table: &mut [u16], discard: bool) -> Answer {
+    fn read_message(&self, message: &[u8], table: &mut [u16], settings: u32) -> Answer {
         unsafe {
             viaductle_read_message(
                 message.as_ptr(),
                 message.len(),
                 table.as_mut_ptr(),
                 table.len(),
-                discard,
+                settings,
             )
         }
     }
@@ -97,8 +97,8 @@ impl Calls for Hub {
         }
     }
 
-    fn parts(&self, payload: &[u8]) -> Answer {
-        unsafe { viaductle_parts(payload.as_ptr(), payload.len()) }
+    fn parts(&self, payload: &[u8], answer: Answer) -> Places {
+        unsafe { viaductle_parts(payload.as_ptr(), payload.len(), answer) }
     }
 
     fn lookup(&self, options: &[u8], table: &[u16], count: usize, ordinal: usize) -> Answer {

@@ -78,10 +78,13 @@ fn sum_of_table(table: &[u16; SLOTS]) -> u32 {
     sum.value()
 }
 
+/// How many values of an answer go into a sum.
+const SUMMED: usize = 4;
+
 fn add_answer(sum: &mut Sum, answer: Answer) {
     sum.number(answer.number);
-    for value in answer.values {
-        sum.number(value);
+    for value in &answer.values[..SUMMED] {
+        sum.number(*value);
     }
 }
 

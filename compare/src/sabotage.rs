@@ -18,6 +18,8 @@ pub enum Fault {
     ZeroCountRunRefused,
     SessionZeroAccepted,
     PartOffByFour,
+    PartsAfterRefusal,
+    UnnamedBitObeyed,
     EntryFieldsSwapped,
     TtlCutTo16Bits,
     LookupOneFurther,
@@ -34,12 +36,14 @@ pub enum Fault {
     RefusalWrites,
     GapFillerRefused,
     ClearKeepsEnd,
+    ClearWipesPairs,
+    NoStreamCleared,
 }
 
 use Fault::*;
 
 /// All faults: those of service discovery, then those of a stream.
-const SERVICE_DISCOVERY: [Fault; 18] = [
+const SERVICE_DISCOVERY: [Fault; 20] = [
     NeededLengthOffByOne,
     RefusalsRenumbered,
     TableShifted,
@@ -51,6 +55,8 @@ const SERVICE_DISCOVERY: [Fault; 18] = [
     ZeroCountRunRefused,
     SessionZeroAccepted,
     PartOffByFour,
+    PartsAfterRefusal,
+    UnnamedBitObeyed,
     EntryFieldsSwapped,
     TtlCutTo16Bits,
     LookupOneFurther,
@@ -59,7 +65,7 @@ const SERVICE_DISCOVERY: [Fault; 18] = [
     DeleteInKeyAccepted,
     InputDamaged,
 ];
-const STREAMS: [Fault; 9] = [
+const STREAMS: [Fault; 11] = [
     SegmentSwallowed,
     FirstBytesWin,
     EndIgnored,
@@ -69,6 +75,8 @@ const STREAMS: [Fault; 9] = [
     RefusalWrites,
     GapFillerRefused,
     ClearKeepsEnd,
+    ClearWipesPairs,
+    NoStreamCleared,
 ];
 
 /// A port with one fault.
@@ -91,7 +99,7 @@ impl<P: Calls> Faulty<'_, P> {
             (RunNamesTheOther, 12) => answer.values[0] = 3 - answer.values[0],
             (BytesBehindSwallowed, 6) if answer.values[0] < answer.values[1] => {
                 let known = answer.values[0] as usize;
-                return self.inner.read(&payload[..known], table, false);
+                return self.inner.read(&payload[..known], table, 0);
             }
             (ZeroCountRunRefused, 0) => {
                 let options = answer.values[2];
@@ -116,21 +124,25 @@ impl<P: Calls> Faulty<'_, P> {
 }
 
 impl<P: Calls> Calls for Faulty<'_, P> {
-    fn read(&self, payload: &[u8], table: &mut [u16], discard: bool) -> Answer {
+    fn read(&self, payload: &[u8], table: &mut [u16], settings: u32) -> Answer {
         if self.is(InputDamaged) && payload.len() > 40 {
             let mut other = payload.to_vec();
             *other.last_mut().expect("not empty") ^= 1;
-            return self.inner.read(&other, table, discard);
+            return self.inner.read(&other, table, settings);
         }
-        let discard = discard && !self.is(DiscardIgnored);
-        let answer = self.inner.read(payload, table, discard);
+        let settings = match self.fault {
+            DiscardIgnored => settings & !DISCARD,
+            UnnamedBitObeyed if settings & 0x2 != 0 => settings | DISCARD,
+            _ => settings,
+        };
+        let answer = self.inner.read(payload, table, settings);
         self.reading(answer, payload, table)
     }
 
-    fn read_message(&self, message: &[u8], table: &mut [u16], discard: bool) -> Answer {
-        let answer = self.inner.read_message(message, table, discard);
+    fn read_message(&self, message: &[u8], table: &mut [u16], settings: u32) -> Answer {
+        let answer = self.inner.read_message(message, table, settings);
         if self.is(SessionZeroAccepted) && answer.number == 16 {
-            return self.inner.read(&message[16..], table, discard);
+            return self.inner.read(&message[16..], table, settings);
         }
         answer
     }
@@ -139,12 +151,16 @@ impl<P: Calls> Calls for Faulty<'_, P> {
         self.inner.index(options, table)
     }
 
-    fn parts(&self, payload: &[u8]) -> Answer {
-        let mut answer = self.inner.parts(payload);
-        if self.is(PartOffByFour) && answer.accepted() {
-            answer.values[2] -= 4;
+    fn parts(&self, payload: &[u8], answer: Answer) -> Places {
+        let handed = match self.fault {
+            PartsAfterRefusal => Answer::default(),
+            _ => answer,
+        };
+        let mut places = self.inner.parts(payload, handed);
+        if self.is(PartOffByFour) && places.options_at != 0 {
+            places.options_at -= 4;
         }
-        answer
+        places
     }
 
     fn lookup(&self, options: &[u8], table: &[u16], count: usize, ordinal: usize) -> Answer {
@@ -249,9 +265,14 @@ impl<P: Calls> Calls for Faulty<'_, P> {
 
     fn clear(&self, state: &mut [u32]) -> Answer {
         let known = state[2];
+        if self.is(NoStreamCleared) {
+            state[2] = 0;
+        }
         let answer = self.inner.clear(state);
-        if self.is(ClearKeepsEnd) {
-            state[2] = known;
+        match self.fault {
+            ClearKeepsEnd => state[2] = known,
+            ClearWipesPairs => state[4..].fill(0),
+            _ => {}
         }
         answer
     }

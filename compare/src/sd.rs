@@ -1,6 +1,6 @@
 //! The comparison on the service discovery side: what the port answers beside what the crate says, for one input at a time.
 
-use crate::calls::{Answer, Calls, NOTHING, SLOTS};
+use crate::calls::{Answer, Calls, Places, DISCARD, NOTHING, SLOTS};
 use crate::oracle;
 use crate::tally::{hex, Tally};
 use someip_parse::sd::{SdOptionsIndex, SdSlice};
@@ -19,8 +19,10 @@ fn before(slot: usize) -> u16 {
     0xa5c3 ^ (slot as u16).wrapping_mul(0x0101)
 }
 
-fn be32(bytes: &[u8]) -> usize {
-    u32::from_be_bytes([bytes[0], bytes[1], bytes[2], bytes[3]]) as usize
+/// The settings as a word. With every second input all bits that have no name are set too: they are ignored.
+fn settings(discard: bool, input: &[u8]) -> u32 {
+    let unnamed = if input.len() % 2 == 1 { !DISCARD } else { 0 };
+    unnamed | if discard { DISCARD } else { 0 }
 }
 
 impl<'a, P: Calls> Sd<'a, P> {
@@ -59,7 +61,8 @@ impl<'a, P: Calls> Sd<'a, P> {
     pub fn payload(&mut self, payload: &[u8], discard: bool, slots: usize) {
         self.tally.input("payloads");
         self.lend();
-        let got = self.port.read(payload, &mut self.table[..slots], discard);
+        let word = settings(discard, payload);
+        let got = self.port.read(payload, &mut self.table[..slots], word);
         let reading = oracle::read(payload, discard);
         self.reading("read", payload, payload, discard, slots, got, reading);
     }
@@ -73,9 +76,10 @@ impl<'a, P: Calls> Sd<'a, P> {
         };
         self.tally.input("messages with SD header");
         self.lend();
+        let word = settings(discard, message);
         let got = self
             .port
-            .read_message(message, &mut self.table[..slots], discard);
+            .read_message(message, &mut self.table[..slots], word);
         let payload = &message[16..];
         self.reading(
             "read_message",
@@ -91,9 +95,7 @@ impl<'a, P: Calls> Sd<'a, P> {
     /// Fewer than 16 bytes of a message: the crate cannot be asked.
     pub fn short_message(&mut self, message: &[u8]) {
         self.lend();
-        let got = self
-            .port
-            .read_message(message, &mut self.table[..SLOTS], false);
+        let got = self.port.read_message(message, &mut self.table[..SLOTS], 0);
         self.tally.document(1);
         let want = Answer::new(1, &[16]);
         self.tally
@@ -138,35 +140,27 @@ impl<'a, P: Calls> Sd<'a, P> {
 
     /// The parts of a payload and what the cursors and lookups hand out.
     fn insides(&mut self, payload: &[u8], said: Answer, sd: Option<SdSlice>, slots: usize) {
-        let want = match (&sd, said.number) {
-            (Some(sd), _) => {
-                let (entries, options) = (sd.entries_slice(), sd.options_index().options());
-                Answer::new(
-                    0,
-                    &[
-                        oracle::place_in(payload, entries) as u64,
-                        entries.len() as u64,
-                        oracle::place_in(payload, options) as u64,
-                        options.len() as u64,
-                    ],
-                )
-            }
-            (None, 1..=6) => said,
-            // The crate hands out no part here; the sizes were judged before what refused.
-            (None, _) => {
-                let entries = be32(&payload[4..]) as u64;
-                let options = payload.len() as u64 - 12 - entries;
-                Answer::new(0, &[8, entries, 12 + entries, options])
-            }
+        // The crate hands out no part after a refusal; by the rules they are empty.
+        let want = match &sd {
+            Some(sd) => oracle::places(payload, sd),
+            None => Places::default(),
         };
-        let got = self.port.parts(payload);
+        let got = self.port.parts(payload, said);
         self.tally.same("parts", &want, &got, || hex(payload));
-        if !want.accepted() {
+        // With an answer of other bytes: by the sizes alone, which are judged before all else.
+        let want = match said.number {
+            1..=6 => Places::default(),
+            _ => oracle::places_by_sizes(payload),
+        };
+        let got = self.port.parts(payload, Answer::default());
+        self.tally
+            .same("parts by the sizes", &want, &got, || hex(payload));
+        if want == Places::default() {
             return;
         }
-        let [entries_at, entries_len, options_at, _] = want.values.map(|value| value as usize);
-        let entries = &payload[entries_at..entries_at + entries_len];
-        let options = &payload[options_at..];
+        let part = |at: u64, len: u64| &payload[at as usize..(at + len) as usize];
+        let entries = part(want.entries_at, want.entries_len);
+        let options = part(want.options_at, want.options_len);
         self.entries(entries);
         self.options(options);
         if let Some(sd) = &sd {

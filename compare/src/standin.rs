@@ -1,4 +1,4 @@
-//! A port for tests that need no library: the crate's own readings for service discovery, and document 01's plain machine for a stream.
+//! A port for tests that need no library: the crate's own readings for service discovery, and the rules' plain machine for a stream.
 
 use crate::calls::*;
 use crate::oracle;
@@ -33,7 +33,7 @@ fn be32(bytes: &[u8]) -> u32 {
 /// The ranges held, or `None` for a malformed state.
 fn held(state: &[u32]) -> Option<Vec<TpRange>> {
     let (limit, count) = (*state.first()?, state[1] as usize);
-    if state.len() < WORDS || limit > MOST_LIMIT || count > MOST_RANGES {
+    if state.len() < WORDS || state[2] > 1 || limit > MOST_LIMIT || count > MOST_RANGES {
         return None;
     }
     let ranges: Vec<TpRange> = state[4..4 + 2 * count]
@@ -58,18 +58,18 @@ fn put(state: &mut [u32], ranges: &[TpRange]) {
 }
 
 impl Calls for StandIn {
-    fn read(&self, payload: &[u8], table: &mut [u16], discard: bool) -> Answer {
-        match oracle::read(payload, discard) {
+    fn read(&self, payload: &[u8], table: &mut [u16], settings: u32) -> Answer {
+        match oracle::read(payload, settings & DISCARD != 0) {
             Ok(sd) => Self::lent(table, Some(sd.options_index()), oracle::read_answer(&sd)),
             Err(answer) => Self::lent(table, None, answer),
         }
     }
 
-    fn read_message(&self, message: &[u8], table: &mut [u16], discard: bool) -> Answer {
+    fn read_message(&self, message: &[u8], table: &mut [u16], settings: u32) -> Answer {
         if table.len() >= SLOTS && message.len() < 16 {
             return Self::lent(table, None, Answer::new(1, &[16]));
         }
-        match oracle::read_message(message, discard) {
+        match oracle::read_message(message, settings & DISCARD != 0) {
             Some(Ok(sd)) => Self::lent(table, Some(sd.options_index()), oracle::read_answer(&sd)),
             Some(Err(answer)) => Self::lent(table, None, answer),
             None => Answer::new(99, &[]),
@@ -83,14 +83,13 @@ impl Calls for StandIn {
         }
     }
 
-    fn parts(&self, payload: &[u8]) -> Answer {
+    fn parts(&self, payload: &[u8], answer: Answer) -> Places {
+        if !answer.accepted() {
+            return Places::default();
+        }
         match oracle::read(payload, true) {
-            Err(answer) if answer.number <= 6 => answer,
-            _ => {
-                let entries = u64::from(be32(&payload[4..]));
-                let options = payload.len() as u64 - 12 - entries;
-                Answer::new(0, &[8, entries, 12 + entries, options])
-            }
+            Err(refusal) if refusal.number <= 6 => Places::default(),
+            _ => oracle::places_by_sizes(payload),
         }
     }
 
@@ -218,7 +217,10 @@ impl Calls for StandIn {
     }
 
     fn clear(&self, state: &mut [u32]) -> Answer {
-        state[1..].fill(0);
+        if state.len() < WORDS || state[2] > 1 {
+            return Answer::new(38, &[]);
+        }
+        state[1..4].fill(0);
         Answer::default()
     }
 }

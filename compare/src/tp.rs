@@ -40,6 +40,13 @@ impl Lent {
     }
 }
 
+/// The words after clearing: the limit, no range and no end, and the pairs as they were.
+fn cleared(state: &[u32; WORDS]) -> [u32; WORDS] {
+    let mut words = *state;
+    words[1..4].fill(0);
+    words
+}
+
 pub struct Tp<'a, P> {
     port: &'a P,
     pub tally: Tally,
@@ -121,6 +128,10 @@ impl<'a, P: Calls> Tp<'a, P> {
                 let got = self.port.clear(&mut lent.state);
                 self.tally
                     .same("clear", &Answer::default(), &got, || name(sequence, number));
+                self.tally
+                    .same("words after clear", &cleared(&held), &lent.state, || {
+                        name(sequence, number)
+                    });
             }
         }
         self.state_is(stream, lent, touched, sequence, number);
@@ -273,7 +284,7 @@ impl<'a, P: Calls> Tp<'a, P> {
     /// The state damaged in each way that document 01 lists: 38, nothing written; and too few words.
     fn malformed(&mut self, lent: &Lent, sequence: &Sequence) {
         let limit = lent.state[0];
-        let damage: [(&str, Spoil); 7] = [
+        let damage: [(&str, Spoil); 8] = [
             ("more than 32 ranges", |s| s[1] = 33),
             ("a range that ends before its start", |s| {
                 s[1] = 1;
@@ -293,6 +304,7 @@ impl<'a, P: Calls> Tp<'a, P> {
             }),
             ("a limit above 65,520", |s| s[0] = MOST_LIMIT + 1),
             ("a count that is huge", |s| s[1] = u32::MAX),
+            ("neither an end nor none", |s| s[2] = 2),
         ];
         let segment = crate::tp_inputs::segment(0, true, &[]);
         let want = Answer::new(38, &[]);
@@ -316,6 +328,14 @@ impl<'a, P: Calls> Tp<'a, P> {
                 &(state, &buffer),
                 name,
             );
+            // Clearing mends ranges and end, but leaves words that hold no stream alone.
+            let (due, left) = match held[2] {
+                0 | 1 => (Answer::default(), cleared(&held)),
+                _ => (want, held),
+            };
+            let got = self.port.clear(&mut state);
+            self.tally.same("clear, malformed", &due, &got, name);
+            self.tally.same("words after clear", &left, &state, name);
         }
         let mut state = lent.state;
         let mut buffer = lent.buffer.clone();
@@ -324,6 +344,9 @@ impl<'a, P: Calls> Tp<'a, P> {
             .consume(&mut state[..WORDS - 1], &segment, &mut buffer);
         self.tally
             .same("consume, few words", &want, &got, || "67 words".into());
+        let got = self.port.clear(&mut state[..WORDS - 1]);
+        self.tally
+            .same("clear, few words", &want, &got, || "67 words".into());
         let got = self.port.begin(&mut state[..WORDS - 1], 16);
         self.tally
             .same("begin, few words", &want, &got, || "67 words".into());

@@ -1,7 +1,8 @@
-/* Reads a service discovery payload, then a refused one, and joins two segments of a message. Compiled and run by examples/c/run. */
+/* Reads a service discovery payload, then refused ones, and joins two segments of a message. Compiled and run by examples/c/run. */
 #include "viaductle.h"
 
 #include <inttypes.h>
+#include <stdbool.h>
 #include <stdio.h>
 
 /* An offer of service 0x1234 whose first run holds one IPv4 endpoint. */
@@ -12,39 +13,51 @@ static const uint8_t payload[] = {
     0x00, 0x09, 0x04, 0x00, 0xc0, 0xa8, 0x01, 0x01, 0x00, 0x06, 0x1f, 0x90,                         /* the option */
 };
 
-static void show_refusal(const char *what, viaductle_answer a) {
-    printf("%s: refused, %" PRIu64 " (%" PRIu64 ", %" PRIu64 ", %" PRIu64 ", %" PRIu64 ")\n", what, a.number, a.value0, a.value1, a.value2, a.value3);
+/* An option of unknown type 0x77 that may not be discarded, and no entry. */
+static const uint8_t unknown[] = {0, 0, 0, 0, 0, 0, 0, 0, 0, 0, 0, 4, 0x00, 0x01, 0x77, 0x00};
+
+/* The number, its name and its values up to the last that is not 0. */
+static void show_refusal(const char *what, viaductle_answer answer) {
+    size_t count = VIADUCTLE_VALUES;
+    while (count > 0 && answer.values[count - 1] == 0)
+        count--;
+    printf("%s: refused, %" PRIu64 ": %s", what, answer.number, viaductle_name(answer.number));
+    for (size_t i = 0; i < count; i++)
+        printf("%s%" PRIu64, i == 0 ? "; " : ", ", answer.values[i]);
+    printf("\n");
 }
 
-static void show_option(const uint8_t *options, size_t len, viaductle_answer found) {
-    viaductle_option option = viaductle_read_option(options + found.value1, len - found.value1);
+/* The option that was found among these: its address, protocol and port. */
+static void show_option(const uint8_t *options, viaductle_answer found) {
+    const uint8_t *bytes = options + found.values[1];
+    viaductle_option option = viaductle_read_option(bytes, found.values[2]);
     printf("    option of type 0x%02" PRIx64 ":", option.type);
     for (uint64_t i = 0; i < option.address_len; i++)
-        printf("%s%u", i == 0 ? " " : ".", (unsigned)options[found.value1 + option.address_at + i]);
+        printf("%s%u", i == 0 ? " " : ".", (unsigned)bytes[option.address_at + i]);
     printf(", protocol 0x%02" PRIx64 ", port %" PRIu64 "\n", option.protocol, option.port);
 }
 
-static void show_payload(const uint8_t *bytes, size_t len) {
+static void show_payload(const uint8_t *bytes, size_t len, uint32_t settings) {
     uint16_t table[VIADUCTLE_SLOTS];
-    viaductle_answer read = viaductle_read(bytes, len, table, VIADUCTLE_SLOTS, false);
+    viaductle_answer read = viaductle_read(bytes, len, table, VIADUCTLE_SLOTS, settings);
     if (read.number != VIADUCTLE_ACCEPTED) {
         show_refusal("payload", read);
-        return;
+        return; /* nothing behind this line may be asked of refused bytes; their parts are empty */
     }
-    printf("payload: flags 0x%02" PRIx64 ", %" PRIu64 " entries, %" PRIu64 " options\n", read.value0, read.value1, read.value2);
-    viaductle_answer parts = viaductle_parts(bytes, len);
-    const uint8_t *entries = bytes + parts.value0, *options = bytes + parts.value2;
+    printf("payload: flags 0x%02" PRIx64 ", %" PRIu64 " entries, %" PRIu64 " options\n", read.values[0], read.values[1], read.values[2]);
+    viaductle_places parts = viaductle_parts(bytes, len, read);
+    const uint8_t *entries = bytes + parts.entries_at, *options = bytes + parts.options_at;
     for (size_t at = 0;; at += 16) {
-        viaductle_entry entry = viaductle_next_entry(entries, parts.value1, at);
+        viaductle_entry entry = viaductle_next_entry(entries, parts.entries_len, at);
         if (entry.number != VIADUCTLE_ACCEPTED) /* 20: the end */
             break;
         printf("  entry of type 0x%02" PRIx64 ": service 0x%04" PRIx64 ", TTL %" PRIu64 "\n", entry.type, entry.service, entry.ttl);
         for (size_t next = entry.start1, left = entry.count1; left > 0; next++, left--) {
             viaductle_answer found =
-                viaductle_next_of_run(options, parts.value3, table, VIADUCTLE_SLOTS, read.value2, next, left);
+                viaductle_next_of_run(options, parts.options_len, table, VIADUCTLE_SLOTS, read.values[2], next, left);
             if (found.number != VIADUCTLE_ACCEPTED)
                 break;
-            show_option(options, parts.value3, found);
+            show_option(options, found);
         }
     }
 }
@@ -65,7 +78,11 @@ static void join_segments(void) {
     static uint8_t buffer[VIADUCTLE_BUFFER_LEN(1024)];
     uint32_t state[VIADUCTLE_WORDS];
     uint8_t segment[36];
-    viaductle_begin(state, VIADUCTLE_WORDS, 1024);
+    viaductle_answer begun = viaductle_begin(state, VIADUCTLE_WORDS, 1024);
+    if (begun.number != VIADUCTLE_ACCEPTED) {
+        show_refusal("stream", begun);
+        return;
+    }
     for (uint32_t offset = 16;; offset -= 16) { /* the last one comes first */
         make_segment(segment, offset, offset == 0, offset == 0 ? 'a' : 'b');
         viaductle_answer taken = viaductle_take(state, VIADUCTLE_WORDS, buffer, sizeof buffer);
@@ -77,12 +94,18 @@ static void join_segments(void) {
             break;
     }
     viaductle_answer taken = viaductle_take(state, VIADUCTLE_WORDS, buffer, sizeof buffer);
-    printf("message: %" PRIu64 " bytes, type 0x%02x, length field %u, payload %.32s\n", taken.value0, buffer[14], buffer[7], (const char *)buffer + 16);
+    if (taken.number != VIADUCTLE_ACCEPTED) {
+        show_refusal("message", taken);
+        return;
+    }
+    printf("message: %" PRIu64 " bytes, type 0x%02x, length field %u, payload %.32s\n", taken.values[0], buffer[14], buffer[7], (const char *)buffer + 16);
 }
 
 int main(void) {
-    show_payload(payload, sizeof payload);
-    show_payload(payload, sizeof payload - 1);
+    show_payload(payload, sizeof payload, 0);
+    show_payload(payload, sizeof payload - 1, 0);
+    show_payload(unknown, sizeof unknown, 0);
+    show_payload(unknown, sizeof unknown, VIADUCTLE_DISCARD);
     join_segments();
     return 0;
 }

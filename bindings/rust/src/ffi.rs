@@ -3,21 +3,25 @@
 //! No compiler holds these declarations to the Rattle source. A test compares the two as text (tests/declarations.rs): names and types of
 //! parameters and fields, in their order. The other tests call each function and look at each field.
 
-/// Document 01's number, 0 for accepted, and its values in order; unused ones are 0.
+/// As many values as an answer has at most: the header's `VIADUCTLE_VALUES`.
+pub(crate) const VALUES: usize = 4;
+
+/// The rules' number, 0 for accepted, and its values in order; unused ones are 0.
 #[derive(Clone, Copy)]
 #[repr(C)]
 pub(crate) struct Answer {
     pub number: u64,
-    pub value0: u64,
-    pub value1: u64,
-    pub value2: u64,
-    pub value3: u64,
+    pub values: [u64; VALUES],
 }
 
-impl Answer {
-    pub fn values(self) -> [u64; 4] {
-        [self.value0, self.value1, self.value2, self.value3]
-    }
+/// Where the two parts of a payload start and how many bytes they have; all 0 after a refusal.
+#[derive(Clone, Copy)]
+#[repr(C)]
+pub(crate) struct Places {
+    pub entries_at: u64,
+    pub entries_len: u64,
+    pub options_at: u64,
+    pub options_len: u64,
 }
 
 /// One entry; fields that its kind has not are 0.
@@ -61,9 +65,13 @@ pub(crate) struct Opt {
 }
 
 // As many words as the header has, and no padding between them.
-const _: () = assert!(core::mem::size_of::<Answer>() == 5 * 8);
-const _: () = assert!(core::mem::size_of::<Entry>() == 20 * 8);
-const _: () = assert!(core::mem::size_of::<Opt>() == 16 * 8);
+const _: () = assert!(core::mem::size_of::<Answer>() == (1 + VALUES) * 8);
+const _: () = assert!(core::mem::size_of::<Places>() == 4 * 8);
+const _: () = assert!(core::mem::size_of::<Entry>() == (1 + VALUES + 15) * 8);
+const _: () = assert!(core::mem::size_of::<Opt>() == (1 + VALUES + 11) * 8);
+
+/// The bit of a reading's settings by which unknown options pass though they may not be discarded.
+pub(crate) const DISCARD: u32 = 0x1;
 
 /// The slots of a table that a reading fills.
 pub(crate) const MAX_SD_OPTIONS: usize = 347;
@@ -75,7 +83,7 @@ pub(crate) const MAX_RANGES: usize = 32;
 pub(crate) const WORDS: usize = 4 + 2 * MAX_RANGES;
 
 mod hub {
-    use super::{Answer, Entry, Opt};
+    use super::{Answer, Entry, Opt, Places};
 
     extern "C" {
         pub fn viaductle_read(
@@ -83,14 +91,14 @@ mod hub {
             len: usize,
             table: *mut u16,
             slots: usize,
-            discard: bool,
+            settings: u32,
         ) -> Answer;
         pub fn viaductle_read_message(
             message: *const u8,
             len: usize,
             table: *mut u16,
             slots: usize,
-            discard: bool,
+            settings: u32,
         ) -> Answer;
         pub fn viaductle_index(
             options: *const u8,
@@ -98,7 +106,7 @@ mod hub {
             table: *mut u16,
             slots: usize,
         ) -> Answer;
-        pub fn viaductle_parts(payload: *const u8, len: usize) -> Answer;
+        pub fn viaductle_parts(payload: *const u8, len: usize, answer: Answer) -> Places;
         pub fn viaductle_lookup(
             options: *const u8,
             len: usize,
@@ -146,14 +154,14 @@ mod hub {
 // not null; what the function writes is behind a `&mut`, so no other argument overlaps it. Nothing is kept after the call. The functions have
 // no `requires`: every value of every other argument gets an answer. Structs are plain numbers, of which every value is one.
 
-pub(crate) fn read(payload: &[u8], table: &mut [u16], discard: bool) -> Answer {
+pub(crate) fn read(payload: &[u8], table: &mut [u16], settings: u32) -> Answer {
     let (slots, table) = (table.len(), table.as_mut_ptr());
-    unsafe { hub::viaductle_read(payload.as_ptr(), payload.len(), table, slots, discard) }
+    unsafe { hub::viaductle_read(payload.as_ptr(), payload.len(), table, slots, settings) }
 }
 
-pub(crate) fn read_message(message: &[u8], table: &mut [u16], discard: bool) -> Answer {
+pub(crate) fn read_message(message: &[u8], table: &mut [u16], settings: u32) -> Answer {
     let (slots, table) = (table.len(), table.as_mut_ptr());
-    unsafe { hub::viaductle_read_message(message.as_ptr(), message.len(), table, slots, discard) }
+    unsafe { hub::viaductle_read_message(message.as_ptr(), message.len(), table, slots, settings) }
 }
 
 pub(crate) fn index(options: &[u8], table: &mut [u16]) -> Answer {
@@ -161,8 +169,8 @@ pub(crate) fn index(options: &[u8], table: &mut [u16]) -> Answer {
     unsafe { hub::viaductle_index(options.as_ptr(), options.len(), table, slots) }
 }
 
-pub(crate) fn parts(payload: &[u8]) -> Answer {
-    unsafe { hub::viaductle_parts(payload.as_ptr(), payload.len()) }
+pub(crate) fn parts(payload: &[u8], answer: Answer) -> Places {
+    unsafe { hub::viaductle_parts(payload.as_ptr(), payload.len(), answer) }
 }
 
 pub(crate) fn lookup(options: &[u8], table: &[u16], count: usize, ordinal: usize) -> Answer {

@@ -29,7 +29,7 @@
 //! # Ok::<(), viaductle::Refusal>(())
 //! ```
 //!
-//! Streams of TP segments are in [`TpBuf`]. What is refused is a [`Refusal`], with document 01's number. docs/MOVING.md leads from
+//! Streams of TP segments are in [`TpBuf`]. What is refused is a [`Refusal`], with the number that the rules give it. docs/MOVING.md leads from
 //! someip_parse to this crate, call by call.
 
 #![no_std]
@@ -44,7 +44,7 @@ pub mod sd;
 mod tp;
 
 pub use message::SomeipMsgSlice;
-pub use refusal::{LenSource, Refusal, SdConfigurationStringError, Values};
+pub use refusal::{LenSource, Refusal, SdConfigurationStringError, Values, MAX_REFUSAL_VALUES};
 pub use tp::{TpBuf, TpRange, TpStream, MAX_TP_PAYLOAD_LEN, TP_STREAM_WORDS};
 
 /// The examples of the README and of docs/MOVING.md, run with the others.

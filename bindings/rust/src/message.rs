@@ -1,8 +1,10 @@
 //! A message that the library accepted or put together: its 16 header bytes and what follows.
 
+use core::fmt;
+
 /// A whole message, handed out by [`SdMessage`](crate::sd::SdMessage) or [`TpBuf`](crate::TpBuf). Its fields are read here, not by the
 /// library.
-#[derive(Clone, Copy, Debug, PartialEq, Eq, Hash)]
+#[derive(Clone, Copy, PartialEq, Eq, Hash)]
 pub struct SomeipMsgSlice<'a> {
     header: &'a [u8; HEADER],
     slice: &'a [u8],
@@ -88,5 +90,24 @@ impl<'a> SomeipMsgSlice<'a> {
     /// What follows the header.
     pub fn payload(&self) -> &'a [u8] {
         &self.slice[HEADER..]
+    }
+}
+
+impl fmt::Debug for SomeipMsgSlice<'_> {
+    fn fmt(&self, f: &mut fmt::Formatter<'_>) -> fmt::Result {
+        f.debug_struct("SomeipMsgSlice")
+            .field("message_id", &format_args!("{:#010x}", self.message_id()))
+            .field("length", &self.length())
+            .field("client_id", &format_args!("{:#06x}", self.client_id()))
+            .field("session_id", &self.session_id())
+            .field("protocol_version", &self.protocol_version())
+            .field("interface_version", &self.interface_version())
+            .field(
+                "message_type",
+                &format_args!("{:#04x}", self.message_type_raw()),
+            )
+            .field("return_code", &format_args!("{:#04x}", self.return_code()))
+            .field("payload", &format_args!("{} bytes", self.payload().len()))
+            .finish()
     }
 }

@@ -1,10 +1,10 @@
-//! What is refused: document 01's number, its values, and a text for the person who reads the log.
+//! What is refused: the rules' number, its values, and a text for the person who reads the log.
 
-use crate::ffi::{Answer, MAX_LIMIT, MAX_RANGES, MAX_SD_OPTIONS};
+use crate::ffi::{Answer, MAX_LIMIT, MAX_RANGES, MAX_SD_OPTIONS, VALUES};
 use core::fmt;
 
 /// Why something was refused. Variants and fields have someip_parse's names where it has them; [`number`](Refusal::number) and
-/// [`values`](Refusal::values) are document 01's.
+/// [`values`](Refusal::values) are those of the rules (docs/RULES.md).
 ///
 /// ```
 /// use viaductle::sd::{OffsetTable, SdSlice};
@@ -110,7 +110,10 @@ pub enum Refusal {
     MalformedState,
     /// A number that this crate does not know: the library is newer than it.
     #[allow(missing_docs)]
-    Other { number: u64, values: [u64; 4] },
+    Other {
+        number: u64,
+        values: [u64; MAX_REFUSAL_VALUES],
+    },
 }
 
 /// What gave the length that an option was judged by.
@@ -149,10 +152,13 @@ pub enum SdConfigurationStringError {
     },
 }
 
-/// The values of a refusal in document 01's order; it is a slice of none to four numbers.
+/// As many values as a refusal has at most.
+pub const MAX_REFUSAL_VALUES: usize = VALUES;
+
+/// The values of a refusal in the rules' order; it is a slice of none to [`MAX_REFUSAL_VALUES`] numbers.
 #[derive(Clone, Copy, Debug, PartialEq, Eq, Hash)]
 pub struct Values {
-    all: [u64; 4],
+    all: [u64; VALUES],
     count: usize,
 }
 
@@ -166,7 +172,7 @@ impl core::ops::Deref for Values {
 
 /// A number with its values.
 fn said<const N: usize>(number: u64, values: [u64; N]) -> (u64, Values) {
-    let mut all = [0; 4];
+    let mut all = [0; VALUES];
     all[..N].copy_from_slice(&values);
     (number, Values { all, count: N })
 }
@@ -197,9 +203,9 @@ impl SdConfigurationStringError {
         }
     }
 
-    fn of(values: [u64; 4]) -> Option<Self> {
+    fn of(values: [u64; VALUES]) -> Option<Self> {
         use SdConfigurationStringError::*;
-        let [which, first, second, third] = values;
+        let [which, first, second, third, ..] = values;
         let item_offset = first as usize;
         Some(match which {
             1 => MissingTerminator,
@@ -224,12 +230,12 @@ impl SdConfigurationStringError {
 }
 
 impl Refusal {
-    /// Document 01's number.
+    /// The rules' number.
     pub fn number(&self) -> u64 {
         self.said().0
     }
 
-    /// Document 01's values. Those of 9 are which of the six errors it is, counted from 1, and then its numbers.
+    /// The rules' values. Those of 9 are which of the six errors it is, counted from 1, and then its numbers.
     pub fn values(&self) -> Values {
         self.said().1
     }
@@ -305,8 +311,8 @@ impl Refusal {
     /// The refusal that the library gave. Numbers are as wide as in the library's own enum, from which they come.
     pub(crate) fn of(answer: Answer) -> Refusal {
         use Refusal::*;
-        let (number, values) = (answer.number, answer.values());
-        let [first, second, third, fourth] = values;
+        let Answer { number, values } = answer;
+        let [first, second, third, fourth, ..] = values;
         let refusal = match number {
             1 => UnexpectedEndOfSlice(first as usize),
             2 => SdEntriesArrayLengthTooLarge(first as u32),
@@ -369,7 +375,7 @@ impl Refusal {
             38 => MalformedState,
             _ => Other { number, values },
         };
-        // Nothing was lost: another width, or a value that document 01 has not, would show here.
+        // Nothing was lost: another width, or a value that the rules have not, would show here.
         debug_assert_eq!((refusal.number(), refusal.values().all), (number, values));
         refusal
     }
@@ -377,9 +383,9 @@ impl Refusal {
 
 impl Answer {
     /// The values of an acceptance, or the refusal.
-    pub(crate) fn accepted(self) -> Result<[u64; 4], Refusal> {
+    pub(crate) fn accepted(self) -> Result<[u64; VALUES], Refusal> {
         match self.number {
-            0 => Ok(self.values()),
+            0 => Ok(self.values),
             _ => Err(Refusal::of(self)),
         }
     }
@@ -559,7 +565,7 @@ impl fmt::Display for Refusal {
             ),
             Other { values, .. } => write!(
                 f,
-                "values {values:?}; this crate does not know the number, document 01 does"
+                "values {values:?}; this crate does not know the number: the library is newer"
             ),
         }
     }

@@ -1,6 +1,8 @@
 //! One stream of TP segments, joined in a lent buffer.
 
 use crate::{ffi, Refusal, SomeipMsgSlice};
+use core::fmt;
+use core::hash::{Hash, Hasher};
 
 /// The highest payload limit of a stream.
 pub const MAX_TP_PAYLOAD_LEN: u32 = ffi::MAX_LIMIT;
@@ -9,19 +11,31 @@ pub const MAX_TP_PAYLOAD_LEN: u32 = ffi::MAX_LIMIT;
 pub const TP_STREAM_WORDS: usize = ffi::WORDS;
 
 /// A part of the report that has arrived: offsets into its payload, the end not included.
-#[derive(Clone, Copy, Debug, PartialEq, Eq, PartialOrd, Ord, Hash)]
+#[derive(Clone, Copy, PartialEq, Eq, PartialOrd, Ord, Hash)]
 #[allow(missing_docs)]
 pub struct TpRange {
     pub start: u32,
     pub end: u32,
 }
 
+impl fmt::Debug for TpRange {
+    fn fmt(&self, f: &mut fmt::Formatter<'_>) -> fmt::Result {
+        write!(f, "{}..{}", self.start, self.end)
+    }
+}
+
 /// The state of a stream, apart from its buffer: for a caller who keeps many streams and lends each its buffer call by call. [`TpBuf`] is one
 /// with its buffer.
 ///
-/// It is a value of plain words, and equal to another where all words are. Words that are no state of a stream are refused by 38, and are not
-/// complete.
-#[derive(Clone, Copy, Debug, PartialEq, Eq, Hash)]
+/// It is a value of plain words, and equal to another where all words that count are: those of places that hold no range do not. Words that
+/// are no state of a stream are refused by 38, and are not complete.
+///
+/// ```
+/// let stream = viaductle::TpStream::new(1024)?;
+/// assert_eq!(format!("{stream:?}"), "TpStream { limit: 1024, end: None, ranges: [] }");
+/// # Ok::<(), viaductle::Refusal>(())
+/// ```
+#[derive(Clone, Copy)]
 pub struct TpStream {
     words: [u32; TP_STREAM_WORDS],
 }
@@ -66,8 +80,11 @@ impl TpStream {
     }
 
     /// Forgets ranges and end, keeps the limit, touches no byte of a buffer.
+    ///
+    /// Words that do not even tell whether an end is known stay as they are, and are refused by 38 as before; only
+    /// [`from_words`](Self::from_words) makes a stream of such.
     pub fn clear(&mut self) {
-        // It is refused only with fewer words than a state has.
+        // What is refused here is refused by every call that follows.
         let _ = ffi::clear(&mut self.words);
     }
 
@@ -87,10 +104,50 @@ impl TpStream {
             start: pair[0],
             end: pair[1],
         };
-        self.words[4..]
-            .chunks(2)
-            .map(range)
-            .take(self.words[1] as usize)
+        self.counted()[4..].chunks(2).map(range)
+    }
+
+    /// The words that count: places that hold no range are left out.
+    fn counted(&self) -> &[u32] {
+        &self.words[..4 + 2 * ffi::MAX_RANGES.min(self.words[1] as usize)]
+    }
+}
+
+impl PartialEq for TpStream {
+    fn eq(&self, other: &Self) -> bool {
+        self.counted() == other.counted()
+    }
+}
+
+impl Eq for TpStream {}
+
+impl Hash for TpStream {
+    fn hash<H: Hasher>(&self, state: &mut H) {
+        self.counted().hash(state);
+    }
+}
+
+impl fmt::Debug for TpStream {
+    fn fmt(&self, f: &mut fmt::Formatter<'_>) -> fmt::Result {
+        let mut shown = f.debug_struct("TpStream");
+        if self.words[1] as usize > ffi::MAX_RANGES || self.words[2] > 1 {
+            let words = format_args!("no state of a stream, {:?} ..", &self.words[..4]);
+            return shown.field("words", &words).finish();
+        }
+        shown
+            .field("limit", &self.limit())
+            .field("end", &self.end())
+            .field("ranges", &Ranges(self))
+            .finish()
+    }
+}
+
+/// The ranges of a stream, for a person.
+struct Ranges<'a>(&'a TpStream);
+
+impl fmt::Debug for Ranges<'_> {
+    fn fmt(&self, f: &mut fmt::Formatter<'_>) -> fmt::Result {
+        f.debug_list().entries(self.0.ranges()).finish()
     }
 }
 
@@ -118,10 +175,18 @@ impl TpStream {
 /// stream.clear();
 /// # Ok::<(), viaductle::Refusal>(())
 /// ```
-#[derive(Debug)]
 pub struct TpBuf<'b> {
     stream: TpStream,
     buffer: &'b mut [u8],
+}
+
+impl fmt::Debug for TpBuf<'_> {
+    fn fmt(&self, f: &mut fmt::Formatter<'_>) -> fmt::Result {
+        f.debug_struct("TpBuf")
+            .field("stream", &self.stream)
+            .field("buffer", &format_args!("{} bytes", self.buffer.len()))
+            .finish()
+    }
 }
 
 impl<'b> TpBuf<'b> {

@@ -153,9 +153,33 @@ fn malformed_states_are_refused_everywhere() {
         assert!(!stream.is_complete());
         assert!(stream.ranges().count() <= 32);
         assert_eq!((*stream.words(), buffer), (words, [0xee; 80]));
+        // Clearing mends ranges and end, leaves the pairs, and leaves words alone that hold no stream.
         stream.clear();
-        assert_eq!(*stream.words(), state(words[0], 0, 0, 0, &[]));
+        let mut cleared = words;
+        if words[2] <= 1 {
+            cleared[1..4].fill(0);
+        }
+        assert_eq!(*stream.words(), cleared);
     }
+}
+
+#[test]
+fn places_that_hold_no_range_do_not_count() {
+    let mut buffer = [0; 80];
+    let mut stream = TpStream::new(64).unwrap();
+    stream
+        .consume_tp(&segment(32, false, &[1; 16]), &mut buffer)
+        .unwrap();
+    assert_ne!(stream, TpStream::new(64).unwrap());
+    stream.clear();
+    assert_eq!(stream, TpStream::new(64).unwrap());
+    assert_eq!(stream.ranges().count(), 0);
+    let hash = |stream: TpStream| {
+        use std::hash::{BuildHasher, RandomState};
+        static STATE: std::sync::OnceLock<RandomState> = std::sync::OnceLock::new();
+        STATE.get_or_init(RandomState::new).hash_one(stream)
+    };
+    assert_eq!(hash(stream), hash(TpStream::new(64).unwrap()));
 }
 
 #[test]

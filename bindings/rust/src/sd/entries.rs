@@ -1,6 +1,7 @@
 //! One entry of 16 bytes. Its fields are read by the library.
 
 use crate::{ffi, Refusal};
+use core::fmt;
 
 /// The bytes of an entry.
 pub const ENTRY_LEN: usize = 16;
@@ -53,7 +54,7 @@ pub enum EventGroupEntryType {
 }
 
 /// What every entry has after its type.
-#[derive(Clone, Copy, Debug, PartialEq, Eq, Hash)]
+#[derive(Clone, Copy, PartialEq, Eq, Hash)]
 struct Head {
     start1: u8,
     start2: u8,
@@ -63,6 +64,20 @@ struct Head {
     instance: u16,
     major: u8,
     ttl: U24,
+}
+
+impl Head {
+    /// For `Debug`: what it has, and the two runs as numbers of options.
+    fn show(&self, shown: &mut fmt::DebugStruct<'_, '_>) {
+        let run = |start: u8, count: U4| u16::from(start)..u16::from(start) + u16::from(count.0);
+        shown
+            .field("service_id", &format_args!("{:#06x}", self.service))
+            .field("instance_id", &format_args!("{:#06x}", self.instance))
+            .field("major_version", &self.major)
+            .field("ttl", &self.ttl.0)
+            .field("run_1", &run(self.start1, self.count1))
+            .field("run_2", &run(self.start2, self.count2));
+    }
 }
 
 macro_rules! head_accessors {
@@ -115,7 +130,7 @@ macro_rules! head_accessors {
 }
 
 /// A find or an offer.
-#[derive(Clone, Copy, Debug, PartialEq, Eq, Hash)]
+#[derive(Clone, Copy, PartialEq, Eq, Hash)]
 pub struct ServiceEntrySlice<'a> {
     slice: &'a [u8],
     head: Head,
@@ -137,8 +152,19 @@ impl<'a> ServiceEntrySlice<'a> {
     }
 }
 
+impl fmt::Debug for ServiceEntrySlice<'_> {
+    fn fmt(&self, f: &mut fmt::Formatter<'_>) -> fmt::Result {
+        let mut shown = f.debug_struct(match self.entry_type {
+            SdServiceEntryType::FindService => "FindService",
+            SdServiceEntryType::OfferService => "OfferService",
+        });
+        self.head.show(&mut shown);
+        shown.field("minor_version", &self.minor_version).finish()
+    }
+}
+
 /// A subscribe or its acknowledgement.
-#[derive(Clone, Copy, Debug, PartialEq, Eq, Hash)]
+#[derive(Clone, Copy, PartialEq, Eq, Hash)]
 pub struct EventGroupEntrySlice<'a> {
     slice: &'a [u8],
     head: Head,
@@ -184,12 +210,39 @@ impl<'a> EventGroupEntrySlice<'a> {
     }
 }
 
+impl fmt::Debug for EventGroupEntrySlice<'_> {
+    fn fmt(&self, f: &mut fmt::Formatter<'_>) -> fmt::Result {
+        let mut shown = f.debug_struct(match self.entry_type {
+            EventGroupEntryType::SubscribeOrStop => "SubscribeOrStop",
+            EventGroupEntryType::SubscribeAckOrNack => "SubscribeAckOrNack",
+        });
+        self.head.show(&mut shown);
+        shown
+            .field(
+                "eventgroup_id",
+                &format_args!("{:#06x}", self.eventgroup_id),
+            )
+            .field("counter", &self.counter.0)
+            .field("initial_data_requested", &self.initial_data_requested)
+            .finish()
+    }
+}
+
 /// One entry, of either kind.
-#[derive(Clone, Copy, Debug, PartialEq, Eq, Hash)]
+#[derive(Clone, Copy, PartialEq, Eq, Hash)]
 #[allow(missing_docs)]
 pub enum SdEntrySlice<'a> {
     Service(ServiceEntrySlice<'a>),
     Eventgroup(EventGroupEntrySlice<'a>),
+}
+
+impl fmt::Debug for SdEntrySlice<'_> {
+    fn fmt(&self, f: &mut fmt::Formatter<'_>) -> fmt::Result {
+        match self {
+            SdEntrySlice::Service(entry) => entry.fmt(f),
+            SdEntrySlice::Eventgroup(entry) => entry.fmt(f),
+        }
+    }
 }
 
 /// Asks either kind.

@@ -2,19 +2,29 @@
 
 use super::{entries::U4, SdOptionSlice};
 use crate::{ffi, Refusal};
+use core::fmt;
 use core::ops::{Deref, DerefMut};
 
 /// The slots that a reading needs: no options part has more options.
 pub const MAX_SD_OPTIONS_USIZE: usize = ffi::MAX_SD_OPTIONS;
 
 /// The table that a reading is lent: where each option starts. Any `&mut [u16]` of at least as many slots serves as well.
-#[derive(Clone, Debug, PartialEq, Eq)]
+#[derive(Clone, PartialEq, Eq)]
 pub struct OffsetTable([u16; MAX_SD_OPTIONS_USIZE]);
 
 impl OffsetTable {
     /// A table of zeros. What it holds before a reading does not matter, so one table serves for reading after reading.
     pub const fn new() -> Self {
         OffsetTable([0; MAX_SD_OPTIONS_USIZE])
+    }
+}
+
+impl fmt::Debug for OffsetTable {
+    /// The slots up to the last that is not 0.
+    fn fmt(&self, f: &mut fmt::Formatter<'_>) -> fmt::Result {
+        let used = self.0.iter().rposition(|slot| *slot != 0);
+        let used = &self.0[..used.map_or(0, |last| last + 1)];
+        write!(f, "OffsetTable({used:?}, then 0)")
     }
 }
 
@@ -51,7 +61,7 @@ impl DerefMut for OffsetTable {
 /// assert!(index.get(1).is_none());
 /// # Ok::<(), viaductle::Refusal>(())
 /// ```
-#[derive(Clone, Copy, Debug)]
+#[derive(Clone, Copy)]
 pub struct SdOptionsIndex<'a, 't> {
     options: &'a [u8],
     table: &'t [u16],
@@ -129,7 +139,7 @@ impl PartialEq for SdOptionsIndex<'_, '_> {
 impl Eq for SdOptionsIndex<'_, '_> {}
 
 /// The options of a run, one after the other.
-#[derive(Clone, Debug, PartialEq, Eq)]
+#[derive(Clone, PartialEq, Eq)]
 pub struct SdOptionRunIter<'a, 't> {
     index: SdOptionsIndex<'a, 't>,
     next: usize,

@@ -13,7 +13,7 @@ fn handed<T>(answer: Result<T, Refusal>, ended: &mut bool) -> Option<Result<T, R
 }
 
 /// The entries of an entries part, one after the other; it ends after the first refusal.
-#[derive(Clone, Debug, PartialEq, Eq)]
+#[derive(Clone, PartialEq, Eq)]
 pub struct SdEntriesIterator<'a> {
     entries: &'a [u8],
     at: usize,
@@ -53,7 +53,7 @@ impl<'a> Iterator for SdEntriesIterator<'a> {
 }
 
 /// The options of an options part, one after the other; it ends after the first refusal.
-#[derive(Clone, Debug, PartialEq, Eq)]
+#[derive(Clone, PartialEq, Eq)]
 pub struct SdOptionsIterator<'a> {
     options: &'a [u8],
     at: usize,
@@ -75,7 +75,7 @@ impl<'a> SdOptionsIterator<'a> {
     pub fn advance(&mut self) -> Result<SdOptionSlice<'a>, Refusal> {
         let answer = ffi::next_option(self.options, self.at);
         let option = SdOptionSlice::found(answer, self.options)?;
-        let [_, at, size, _] = answer.values();
+        let [_, at, size, ..] = answer.values;
         self.at = (at + size) as usize;
         Ok(option)
     }
@@ -94,7 +94,7 @@ impl<'a> Iterator for SdOptionsIterator<'a> {
 }
 
 /// An entry with its two runs of options.
-#[derive(Clone, Copy, Debug, PartialEq, Eq)]
+#[derive(Clone, Copy, PartialEq, Eq)]
 pub struct SdEntryWithOptions<'a, 't> {
     entry: SdEntrySlice<'a>,
     index: SdOptionsIndex<'a, 't>,

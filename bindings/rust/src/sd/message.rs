@@ -39,7 +39,7 @@ impl<'a, 't> SdMessage<'a, 't> {
         table: &'t mut [u16],
         settings: Settings,
     ) -> Result<Self, Refusal> {
-        let answer = ffi::read_message(message, table, settings.discard_unknown_option);
+        let answer = ffi::read_message(message, table, settings.word());
         answer.accepted()?;
         let header = SomeipMsgSlice::of(message).ok_or(Refusal::UnexpectedEndOfSlice(16))?;
         let sd = SdSlice::of(answer, header.payload(), table)?;

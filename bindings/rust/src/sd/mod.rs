@@ -6,6 +6,7 @@ pub mod options;
 mod index;
 mod iterators;
 mod message;
+mod shown;
 mod slice;
 
 pub use entries::SdEntrySlice;

@@ -2,6 +2,8 @@
 //! off its part here, since lookups do not scan the string again.
 
 use crate::{ffi, Refusal};
+use core::fmt;
+use core::net::IpAddr;
 
 /// The bit of an option's first byte by which a receiver may discard it.
 pub const DISCARDABLE_FLAG: u8 = 0x80;
@@ -51,7 +53,7 @@ pub fn validate_configuration_string(string: &[u8]) -> Result<(), Refusal> {
 }
 
 /// A configuration option (0x01).
-#[derive(Clone, Copy, Debug, PartialEq, Eq, Hash)]
+#[derive(Clone, Copy, PartialEq, Eq, Hash)]
 pub struct ConfigurationSlice<'a> {
     slice: &'a [u8],
 }
@@ -73,8 +75,18 @@ impl<'a> ConfigurationSlice<'a> {
     }
 }
 
+impl fmt::Debug for ConfigurationSlice<'_> {
+    fn fmt(&self, f: &mut fmt::Formatter<'_>) -> fmt::Result {
+        let string = self.configuration_string().escape_ascii();
+        f.debug_struct("Configuration")
+            .field("discardable", &self.discardable())
+            .field("string", &format_args!("\"{string}\""))
+            .finish()
+    }
+}
+
 /// A load balancing option (0x02).
-#[derive(Clone, Copy, Debug, PartialEq, Eq, Hash)]
+#[derive(Clone, Copy, PartialEq, Eq, Hash)]
 pub struct LoadBalancingSlice<'a> {
     slice: &'a [u8],
     discardable: bool,
@@ -104,8 +116,18 @@ impl<'a> LoadBalancingSlice<'a> {
     }
 }
 
+impl fmt::Debug for LoadBalancingSlice<'_> {
+    fn fmt(&self, f: &mut fmt::Formatter<'_>) -> fmt::Result {
+        f.debug_struct("LoadBalancing")
+            .field("discardable", &self.discardable)
+            .field("priority", &self.priority)
+            .field("weight", &self.weight)
+            .finish()
+    }
+}
+
 /// An option of another type.
-#[derive(Clone, Copy, Debug, PartialEq, Eq, Hash)]
+#[derive(Clone, Copy, PartialEq, Eq, Hash)]
 pub struct UnknownSlice<'a> {
     slice: &'a [u8],
     option_type: u8,
@@ -129,11 +151,21 @@ impl<'a> UnknownSlice<'a> {
     }
 }
 
+impl fmt::Debug for UnknownSlice<'_> {
+    fn fmt(&self, f: &mut fmt::Formatter<'_>) -> fmt::Result {
+        f.debug_struct("Unknown")
+            .field("option_type", &format_args!("{:#04x}", self.option_type))
+            .field("discardable", &self.discardable)
+            .field("slice", &format_args!("{:02x?}", self.slice))
+            .finish()
+    }
+}
+
 /// An option with an address: six types differ in their names and the address's width.
 macro_rules! addressed {
     ($name:ident, $address:ident, $width:literal, $what:literal) => {
         #[doc = $what]
-        #[derive(Clone, Copy, Debug, PartialEq, Eq, Hash)]
+        #[derive(Clone, Copy, PartialEq, Eq, Hash)]
         pub struct $name<'a> {
             slice: &'a [u8],
             address: [u8; $width],
@@ -173,6 +205,16 @@ macro_rules! addressed {
             /// The port.
             pub fn port(&self) -> u16 {
                 self.port
+            }
+        }
+
+        impl fmt::Debug for $name<'_> {
+            fn fmt(&self, f: &mut fmt::Formatter<'_>) -> fmt::Result {
+                f.debug_struct(stringify!($name).trim_end_matches("Slice"))
+                    .field(stringify!($address), &IpAddr::from(self.address))
+                    .field("transport_protocol", &self.transport_protocol)
+                    .field("port", &self.port)
+                    .finish()
             }
         }
     };
@@ -216,7 +258,7 @@ addressed!(
 );
 
 /// One option, of any kind.
-#[derive(Clone, Copy, Debug, PartialEq, Eq, Hash)]
+#[derive(Clone, Copy, PartialEq, Eq, Hash)]
 #[allow(missing_docs)]
 pub enum SdOptionSlice<'a> {
     Configuration(ConfigurationSlice<'a>),
@@ -228,6 +270,22 @@ pub enum SdOptionSlice<'a> {
     Ipv4SdEndpoint(Ipv4SdEndpointSlice<'a>),
     Ipv6SdEndpoint(Ipv6SdEndpointSlice<'a>),
     Unknown(UnknownSlice<'a>),
+}
+
+impl fmt::Debug for SdOptionSlice<'_> {
+    fn fmt(&self, f: &mut fmt::Formatter<'_>) -> fmt::Result {
+        match self {
+            Self::Configuration(option) => option.fmt(f),
+            Self::LoadBalancing(option) => option.fmt(f),
+            Self::Ipv4Endpoint(option) => option.fmt(f),
+            Self::Ipv6Endpoint(option) => option.fmt(f),
+            Self::Ipv4Multicast(option) => option.fmt(f),
+            Self::Ipv6Multicast(option) => option.fmt(f),
+            Self::Ipv4SdEndpoint(option) => option.fmt(f),
+            Self::Ipv6SdEndpoint(option) => option.fmt(f),
+            Self::Unknown(option) => option.fmt(f),
+        }
+    }
 }
 
 /// The bytes of an option before its part: length and type.
@@ -244,7 +302,7 @@ impl<'a> SdOptionSlice<'a> {
 
     /// The option that a lookup or a cursor found among `options`. A configuration string is not scanned again.
     pub(super) fn found(answer: ffi::Answer, options: &'a [u8]) -> Result<Self, Refusal> {
-        let [code, at, size, _] = answer.accepted()?;
+        let [code, at, size, ..] = answer.accepted()?;
         let option = &options[at as usize..][..size as usize];
         if code == CONFIGURATION {
             return Ok(Self::configuration(option));

@@ -19,6 +19,17 @@ pub struct Settings {
     pub discard_unknown_option: bool,
 }
 
+impl Settings {
+    /// The word of bits that the library is told.
+    pub(super) fn word(self) -> u32 {
+        if self.discard_unknown_option {
+            ffi::DISCARD
+        } else {
+            0
+        }
+    }
+}
+
 /// The three flags of a payload's first byte.
 #[derive(Clone, Debug, PartialEq, Eq, Hash)]
 #[allow(missing_docs)]
@@ -42,9 +53,10 @@ pub struct SdHeaderFlags {
 /// let settings = Settings { discard_unknown_option: true, ..Default::default() };
 /// let sd = SdSlice::from_slice_with(&payload, &mut table, settings)?;
 /// assert_eq!((sd.entries().count(), sd.options().count()), (0, 1));
+/// println!("{sd:#?}"); // for a person: flags, and each entry and option by its fields
 /// # Ok::<(), viaductle::Refusal>(())
 /// ```
-#[derive(Clone, Debug, PartialEq, Eq)]
+#[derive(Clone, PartialEq, Eq)]
 pub struct SdSlice<'a, 't> {
     flags: SdHeaderFlags,
     entries: &'a [u8],
@@ -54,7 +66,7 @@ pub struct SdSlice<'a, 't> {
 impl<'a, 't> SdSlice<'a, 't> {
     /// Reads a payload into the lent table, unknown options that may not be discarded refused.
     ///
-    /// Refused by 22, 1 to 9, 10, 11 and 12, in document 01's order. After a refusal the table's 347 slots hold 0; after 22 nothing has
+    /// Refused by 22, 1 to 9, 10, 11 and 12, in the rules' order. After a refusal the table's 347 slots hold 0; after 22 nothing has
     /// changed. Slots past 347 are never touched.
     pub fn from_slice(payload: &'a [u8], table: &'t mut [u16]) -> Result<Self, Refusal> {
         Self::from_slice_with(payload, table, Settings::default())
@@ -78,7 +90,7 @@ impl<'a, 't> SdSlice<'a, 't> {
         table: &'t mut [u16],
         settings: Settings,
     ) -> Result<Self, Refusal> {
-        let answer = ffi::read(payload, table, settings.discard_unknown_option);
+        let answer = ffi::read(payload, table, settings.word());
         Self::of(answer, payload, table)
     }
 
@@ -88,18 +100,18 @@ impl<'a, 't> SdSlice<'a, 't> {
         payload: &'a [u8],
         table: &'t [u16],
     ) -> Result<Self, Refusal> {
-        let [flags, entries, options, _] = answer.accepted()?;
-        let parts = ffi::parts(payload).accepted()?;
-        let [entries_at, entries_len, options_at, options_len] = parts.map(|part| part as usize);
-        debug_assert_eq!(entries as usize * ENTRY_LEN, entries_len);
-        let options_part = &payload[options_at..][..options_len];
+        let [flags, entries, options, ..] = answer.accepted()?;
+        let parts = ffi::parts(payload, answer);
+        debug_assert_eq!(entries * ENTRY_LEN as u64, parts.entries_len);
+        let part = |at: u64, len: u64| &payload[at as usize..][..len as usize];
+        let options_part = part(parts.options_at, parts.options_len);
         Ok(SdSlice {
             flags: SdHeaderFlags {
                 reboot: flags & 0x80 != 0,
                 unicast: flags & 0x40 != 0,
                 explicit_initial_data_control: flags & 0x20 != 0,
             },
-            entries: &payload[entries_at..][..entries_len],
+            entries: part(parts.entries_at, parts.entries_len),
             options_index: SdOptionsIndex::from_table(options_part, table, options as usize),
         })
     }
