@@ -472,7 +472,7 @@ impl fmt::Display for Refusal {
             ConfigurationString(error) => write!(f, "a configuration string is wrong: {error}"),
             UnknownSdOptionType(code) => write!(
                 f,
-                "an option has the unknown type {code:#04x} and may not be discarded; the setting discard_unknown_option would pass it"
+                "an option has the unknown type {code:#04x} and may not be discarded; the discard setting would pass it"
             ),
             UnknownSdServiceEntryType(code) => write!(
                 f,

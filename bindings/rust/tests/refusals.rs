@@ -146,7 +146,7 @@ fn r07_to_r10_options() {
         "00017700",
         10,
         &[0x77],
-        "an option has the unknown type 0x77 and may not be discarded; the setting discard_unknown_option would pass it",
+        "an option has the unknown type 0x77 and may not be discarded; the discard setting would pass it",
     );
 }
 
