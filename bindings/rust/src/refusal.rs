@@ -15,7 +15,7 @@ use core::fmt;
 /// assert_eq!((refusal.number(), &refusal.values()[..]), (6, &[12, 13][..]));
 /// assert_eq!(
 ///     refusal.to_string(),
-///     "refused (6): by its own length fields the payload takes 12 bytes, but 13 were handed in",
+///     "refused, 6: by its own length fields the payload takes 12 bytes, but 13 were handed in",
 /// );
 /// ```
 #[derive(Clone, Copy, Debug, PartialEq, Eq, Hash)]
@@ -429,7 +429,7 @@ impl fmt::Display for SdConfigurationStringError {
 impl fmt::Display for Refusal {
     fn fmt(&self, f: &mut fmt::Formatter<'_>) -> fmt::Result {
         use Refusal::*;
-        write!(f, "refused ({}): ", self.number())?;
+        write!(f, "refused, {}: ", self.number())?;
         match *self {
             UnexpectedEndOfSlice(needed) => {
                 write!(f, "the bytes end too soon: at least {needed} are needed")

@@ -9,7 +9,7 @@ use viaductle::{Refusal, TpBuf, TpStream, MAX_REFUSAL_VALUES};
 
 fn is(refusal: Refusal, number: u64, values: &[u64], text: &str) {
     assert_eq!((refusal.number(), &refusal.values()[..]), (number, values));
-    assert_eq!(refusal.to_string(), format!("refused ({number}): {text}"));
+    assert_eq!(refusal.to_string(), format!("refused, {number}: {text}"));
 }
 
 fn payload_is(payload: &[u8], number: u64, values: &[u64], text: &str) {

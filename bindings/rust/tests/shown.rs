@@ -71,7 +71,7 @@ fn every_kind() {
     let mut entries = hex("06 01 06 23 1111 2222 03 FFFFFF 5A DC 0007 05");
     assert_eq!(
         format!("{:?}", SdEntriesIterator::new(&entries)),
-        "SdEntriesIterator([SubscribeOrStop { service_id: 0x1111, instance_id: 0x2222, major_version: 3, ttl: 16777215, run_1: 1..3, run_2: 6..9, eventgroup_id: 0x0007, counter: 12, initial_data_requested: true }, refused (1): the bytes end too soon: at least 16 are needed])"
+        "SdEntriesIterator([SubscribeOrStop { service_id: 0x1111, instance_id: 0x2222, major_version: 3, ttl: 16777215, run_1: 1..3, run_2: 6..9, eventgroup_id: 0x0007, counter: 12, initial_data_requested: true }, refused, 1: the bytes end too soon: at least 16 are needed])"
     );
     entries.truncate(0);
     assert_eq!(
