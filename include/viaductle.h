@@ -194,6 +194,12 @@ viaductle_answer viaductle_next_of_run(const uint8_t *options, size_t len, const
 /* A configuration string alone: 0, or 9. */
 viaductle_answer viaductle_string(const uint8_t *string, size_t len);
 
+/* The item whose length byte is byte `at` of a configuration string, its key judged. To go through all: begin at 0, and go on at values[0] +
+ * values[1].
+ *   0: values[0] = where its bytes start (at + 1), values[1] = how many they are. Its key is what stands before the first '=', or all of them.
+ *   20 at the closing zero byte, whatever is behind it, and with no bytes left; otherwise 9. */
+viaductle_answer viaductle_next_item(const uint8_t *string, size_t len, size_t at);
+
 /* One option with its fields: those that its kind has not hold 0, and so do all after a refusal. */
 typedef struct {
     uint64_t number, values[VIADUCTLE_VALUES];       /* as in viaductle_answer; after 0 the values hold 0 */

@@ -127,6 +127,7 @@ pub trait Calls: Sync {
         left: usize,
     ) -> Answer;
     fn string(&self, string: &[u8]) -> Answer;
+    fn next_item(&self, string: &[u8], at: usize) -> Answer;
     fn next_entry(&self, entries: &[u8], at: usize) -> Entry;
     fn read_option(&self, option: &[u8]) -> Opt;
 

@@ -257,6 +257,31 @@ pub fn string(string: &[u8]) -> Answer {
     }
 }
 
+/// The item at a place of a string: the crate's answer to that item as a string of its own, closed. The crate itself hands out no items.
+pub fn next_item(string: &[u8], at: usize) -> Answer {
+    let size = match string.get(at) {
+        None | Some(0) => return NOTHING,
+        Some(size) => usize::from(*size),
+    };
+    let rest = &string[at + 1..];
+    let mut alone = vec![size as u8];
+    match rest.get(..size) {
+        Some(item) => {
+            alone.extend_from_slice(item);
+            alone.push(0);
+        }
+        None => alone.extend_from_slice(rest),
+    }
+    let mut answer = self::string(&alone);
+    match answer.number {
+        0 => Answer::new(0, &[wide(at + 1), wide(size)]),
+        _ => {
+            answer.values[1] += wide(at);
+            answer
+        }
+    }
+}
+
 /// The option in front of some bytes with all its fields.
 pub fn read_option(bytes: &[u8]) -> Opt {
     let option = match SdOptionSlice::from_slice(bytes) {

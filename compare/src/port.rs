@@ -39,6 +39,7 @@ extern "C" {
         left: usize,
     ) -> Answer;
     fn viaductle_string(string: *const u8, len: usize) -> Answer;
+    fn viaductle_next_item(string: *const u8, len: usize, at: usize) -> Answer;
     fn viaductle_next_entry(entries: *const u8, len: usize, at: usize) -> Entry;
     fn viaductle_read_option(option: *const u8, len: usize) -> Opt;
 
@@ -141,6 +142,10 @@ impl Calls for Hub {
 
     fn string(&self, string: &[u8]) -> Answer {
         unsafe { viaductle_string(string.as_ptr(), string.len()) }
+    }
+
+    fn next_item(&self, string: &[u8], at: usize) -> Answer {
+        unsafe { viaductle_next_item(string.as_ptr(), string.len(), at) }
     }
 
     fn next_entry(&self, entries: &[u8], at: usize) -> Entry {

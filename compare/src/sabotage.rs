@@ -26,6 +26,7 @@ pub enum Fault {
     RunStopsEarly,
     PortBytesSwapped,
     DeleteInKeyAccepted,
+    ItemWithItsLength,
     InputDamaged,
     SegmentSwallowed,
     FirstBytesWin,
@@ -43,7 +44,7 @@ pub enum Fault {
 use Fault::*;
 
 /// All faults: those of service discovery, then those of a stream.
-const SERVICE_DISCOVERY: [Fault; 20] = [
+const SERVICE_DISCOVERY: [Fault; 21] = [
     NeededLengthOffByOne,
     RefusalsRenumbered,
     TableShifted,
@@ -63,6 +64,7 @@ const SERVICE_DISCOVERY: [Fault; 20] = [
     RunStopsEarly,
     PortBytesSwapped,
     DeleteInKeyAccepted,
+    ItemWithItsLength,
     InputDamaged,
 ];
 const STREAMS: [Fault; 11] = [
@@ -192,6 +194,14 @@ impl<P: Calls> Calls for Faulty<'_, P> {
         let answer = self.inner.string(string);
         if self.is(DeleteInKeyAccepted) && answer.number == 9 && answer.values[3] == 0x7f {
             return Answer::default();
+        }
+        answer
+    }
+
+    fn next_item(&self, string: &[u8], at: usize) -> Answer {
+        let mut answer = self.inner.next_item(string, at);
+        if self.is(ItemWithItsLength) && answer.accepted() {
+            answer.values[0] -= 1;
         }
         answer
     }

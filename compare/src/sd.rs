@@ -323,5 +323,19 @@ impl<'a, P: Calls> Sd<'a, P> {
         let (want, got) = (oracle::string(string), self.port.string(string));
         self.tally.answer(want);
         self.tally.same("string", &want, &got, || hex(string));
+        let mut at = 0;
+        loop {
+            let (want, got) = (
+                oracle::next_item(string, at),
+                self.port.next_item(string, at),
+            );
+            self.tally.same("next_item", &want, &got, || {
+                format!("at {at}: {}", hex(string))
+            });
+            if !want.accepted() {
+                return;
+            }
+            at += 1 + want.values[1] as usize;
+        }
     }
 }

@@ -119,6 +119,10 @@ impl Calls for StandIn {
         oracle::string(string)
     }
 
+    fn next_item(&self, string: &[u8], at: usize) -> Answer {
+        oracle::next_item(string, at)
+    }
+
     fn next_entry(&self, entries: &[u8], at: usize) -> Entry {
         oracle::next_entry(entries, at)
     }

@@ -126,6 +126,7 @@ mod hub {
             left: usize,
         ) -> Answer;
         pub fn viaductle_string(string: *const u8, len: usize) -> Answer;
+        pub fn viaductle_next_item(string: *const u8, len: usize, at: usize) -> Answer;
         pub fn viaductle_read_entry(entry: *const u8, len: usize) -> Entry;
         pub fn viaductle_next_entry(entries: *const u8, len: usize, at: usize) -> Entry;
         pub fn viaductle_read_option(option: *const u8, len: usize) -> Opt;
@@ -214,6 +215,10 @@ pub(crate) fn next_of_run(
 
 pub(crate) fn string(string: &[u8]) -> Answer {
     unsafe { hub::viaductle_string(string.as_ptr(), string.len()) }
+}
+
+pub(crate) fn next_item(string: &[u8], at: usize) -> Answer {
+    unsafe { hub::viaductle_next_item(string.as_ptr(), string.len(), at) }
 }
 
 pub(crate) fn read_entry(entry: &[u8]) -> Entry {

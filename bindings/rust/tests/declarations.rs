@@ -240,7 +240,7 @@ fn declared_as_in_the_source() {
         return;
     };
     let exported = functions(&source, "pub extern \"C\" fn ");
-    assert_eq!(exported.len(), 16, "{exported:#?}");
+    assert_eq!(exported.len(), 17, "{exported:#?}");
     assert_eq!(functions(&ffi(), "pub fn "), exported);
 }
 

@@ -3,12 +3,12 @@
 mod common;
 use common::*;
 use viaductle::sd::entries::{EventGroupEntryType, SdServiceEntryType, U4};
-use viaductle::sd::options::TransportProtocol;
+use viaductle::sd::options::{ConfigurationItems, TransportProtocol};
 use viaductle::sd::{
     OffsetTable, SdEntriesIterator, SdEntrySlice, SdOptionSlice, SdOptionsIndex, SdOptionsIterator,
     SdSlice,
 };
-use viaductle::Refusal;
+use viaductle::{Refusal, SdConfigurationStringError};
 
 /// One option of each kind.
 const OPTIONS: &str = "0006 01 80 03 613D31 00
@@ -306,4 +306,51 @@ fn lent_tables() {
         .iter()
         .enumerate()
         .all(|(slot, at)| usize::from(*at) == 4 * slot));
+}
+
+#[test]
+fn items_of_a_string() {
+    let items = |string| -> Vec<_> { ConfigurationItems::new(string).collect() };
+    let found = items(b"\x03a=1\x02b=\x04flag\x05c==\xff\0\0");
+    let pairs: Vec<_> = found
+        .iter()
+        .map(|item| item.as_ref().unwrap())
+        .map(|item| (item.key(), item.value()))
+        .collect();
+    let value = |bytes: &'static [u8]| Some(bytes);
+    assert_eq!(
+        pairs,
+        [
+            (&b"a"[..], value(b"1")),
+            (b"b", value(b"")),
+            (b"flag", None),
+            (b"c", value(b"=\xff\0"))
+        ]
+    );
+    assert_eq!(found[3].unwrap().slice(), b"c==\xff\0");
+    // The end, with and without a closing zero byte; behind it nothing is looked at.
+    assert!(items(b"").is_empty() && items(b"\0").is_empty() && items(b"\0\x01a").is_empty());
+    assert_eq!(items(b"\x01a").len(), 1);
+    let refused =
+        Refusal::ConfigurationString(SdConfigurationStringError::EmptyKey { item_offset: 2 });
+    let found = items(b"\x01a\x02=b\x01c\0");
+    assert_eq!((found.len(), found[1]), (2, Err(refused)));
+    let mut cursor = ConfigurationItems::new(b"\x01a\x05b\0");
+    assert!(cursor.advance().is_ok());
+    let long = SdConfigurationStringError::ItemLengthExceedsRemaining {
+        item_offset: 2,
+        item_length: 5,
+        remaining: 2,
+    };
+    for _ in 0..2 {
+        assert_eq!(cursor.advance(), Err(Refusal::ConfigurationString(long)));
+    }
+    let bytes = payload(&hex(ENTRIES), &hex(OPTIONS));
+    let mut table = OffsetTable::new();
+    let sd = SdSlice::from_slice(&bytes, &mut table).unwrap();
+    let Some(SdOptionSlice::Configuration(option)) = sd.options_index().get(0) else {
+        panic!()
+    };
+    let keys: Vec<_> = option.items().map(|item| item.unwrap().key()).collect();
+    assert_eq!(keys, [b"a"]);
 }

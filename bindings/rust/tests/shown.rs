@@ -56,7 +56,7 @@ fn every_kind() {
     assert_eq!(
         shown,
         [
-            r#"Configuration { discardable: true, string: "\x03a=1\x00" }"#,
+            r#"Configuration { discardable: true, items: ["a=1"] }"#,
             "LoadBalancing { discardable: true, priority: 4660, weight: 22136 }",
             "Ipv6SdEndpoint { ipv6_address: 2001:db8::3, transport_protocol: Udp, port: 30005 }",
             "Unknown { option_type: 0x77, discardable: true, slice: [80, aa] }",

@@ -4,7 +4,10 @@ use super::{entries::ENTRY_LEN, SdEntrySlice, SdOptionRunIter, SdOptionSlice, Sd
 use crate::{ffi, Refusal};
 
 /// What an iterator hands out for a cursor's answer: nothing at the end, and nothing more after a refusal.
-fn handed<T>(answer: Result<T, Refusal>, ended: &mut bool) -> Option<Result<T, Refusal>> {
+pub(super) fn handed<T>(
+    answer: Result<T, Refusal>,
+    ended: &mut bool,
+) -> Option<Result<T, Refusal>> {
     if let Err(Refusal::NothingThere) = answer {
         return None;
     }

@@ -1,6 +1,7 @@
 //! One option. Its kind, its part and its fields are read by the library; a configuration option's string and its discardable bit are cut
 //! off its part here, since lookups do not scan the string again.
 
+use super::{iterators::handed, shown::All};
 use crate::{ffi, Refusal};
 use core::fmt;
 use core::net::IpAddr;
@@ -73,15 +74,104 @@ impl<'a> ConfigurationSlice<'a> {
     pub fn configuration_string(&self) -> &'a [u8] {
         &self.slice[1..]
     }
+
+    /// The string's items. None is refused, unless the option comes from a lookup over bytes that were never read.
+    pub fn items(&self) -> ConfigurationItems<'a> {
+        ConfigurationItems::new(self.configuration_string())
+    }
 }
 
 impl fmt::Debug for ConfigurationSlice<'_> {
     fn fmt(&self, f: &mut fmt::Formatter<'_>) -> fmt::Result {
-        let string = self.configuration_string().escape_ascii();
         f.debug_struct("Configuration")
             .field("discardable", &self.discardable())
-            .field("string", &format_args!("\"{string}\""))
+            .field("items", &All(self.items()))
             .finish()
+    }
+}
+
+/// One item of a configuration string: a key, and a value behind a `=` if there is one.
+#[derive(Clone, Copy, PartialEq, Eq, Hash)]
+pub struct ConfigurationItem<'a> {
+    slice: &'a [u8],
+}
+
+impl<'a> ConfigurationItem<'a> {
+    /// Its bytes, without the length byte.
+    pub fn slice(&self) -> &'a [u8] {
+        self.slice
+    }
+
+    fn equals(&self) -> Option<usize> {
+        self.slice.iter().position(|byte| *byte == b'=')
+    }
+
+    /// The key: what stands before the first `=`, or all.
+    pub fn key(&self) -> &'a [u8] {
+        &self.slice[..self.equals().unwrap_or(self.slice.len())]
+    }
+
+    /// The value: what stands behind the first `=`. Any bytes may.
+    pub fn value(&self) -> Option<&'a [u8]> {
+        self.equals().map(|at| &self.slice[at + 1..])
+    }
+}
+
+impl fmt::Debug for ConfigurationItem<'_> {
+    fn fmt(&self, f: &mut fmt::Formatter<'_>) -> fmt::Result {
+        write!(f, "\"{}\"", self.slice.escape_ascii())
+    }
+}
+
+/// The items of a configuration string, one after the other; it ends after the first refusal, and at the closing zero byte.
+///
+/// ```
+/// use viaductle::sd::options::ConfigurationItems;
+///
+/// let mut items = ConfigurationItems::new(b"\x03a=1\x04flag\0");
+/// let first = items.next().unwrap()?;
+/// assert_eq!((first.key(), first.value()), (&b"a"[..], Some(&b"1"[..])));
+/// let second = items.next().unwrap()?;
+/// assert_eq!((second.key(), second.value()), (&b"flag"[..], None));
+/// assert!(items.next().is_none());
+/// # Ok::<(), viaductle::Refusal>(())
+/// ```
+#[derive(Clone, PartialEq, Eq)]
+pub struct ConfigurationItems<'a> {
+    string: &'a [u8],
+    at: usize,
+    ended: bool,
+}
+
+impl<'a> ConfigurationItems<'a> {
+    /// The items of this string. Whether it is closed, and with nothing behind that, [`validate_configuration_string`] says.
+    pub fn new(string: &'a [u8]) -> Self {
+        ConfigurationItems {
+            string,
+            at: 0,
+            ended: false,
+        }
+    }
+
+    /// The next item, or why there is none: 20 at the closing zero byte and with no bytes left, 9 of an item that is wrong. A refusal leaves
+    /// the iterator where it was.
+    pub fn advance(&mut self) -> Result<ConfigurationItem<'a>, Refusal> {
+        let [start, len, ..] = ffi::next_item(self.string, self.at).accepted()?;
+        let slice = &self.string[start as usize..][..len as usize];
+        self.at = (start + len) as usize;
+        Ok(ConfigurationItem { slice })
+    }
+}
+
+impl<'a> Iterator for ConfigurationItems<'a> {
+    type Item = Result<ConfigurationItem<'a>, Refusal>;
+
+    fn next(&mut self) -> Option<Self::Item> {
+        if self.ended {
+            return None;
+        }
+        let answer = self.advance();
+        handed(answer, &mut self.ended)
     }
 }
 

@@ -1,5 +1,6 @@
 //! How readings show themselves to a person (`Debug`): each entry and option by its fields, and a refusal by its words.
 
+use super::options::ConfigurationItems;
 use super::{
     SdEntriesIterator, SdEntryWithOptions, SdOptionRunIter, SdOptionsIndex, SdOptionsIterator,
     SdSlice,
@@ -20,7 +21,7 @@ impl<T: Debug> Debug for Handed<T> {
 }
 
 /// All that an iterator has still to hand out.
-struct All<I>(I);
+pub(super) struct All<I>(pub I);
 
 impl<T: Debug, I: Iterator<Item = Result<T, Refusal>> + Clone> Debug for All<I> {
     fn fmt(&self, f: &mut Formatter<'_>) -> fmt::Result {
@@ -81,6 +82,7 @@ macro_rules! to_come {
 
 to_come!(SdEntriesIterator, All);
 to_come!(SdOptionsIterator, All);
+to_come!(ConfigurationItems, All);
 
 impl Debug for SdOptionRunIter<'_, '_> {
     fn fmt(&self, f: &mut Formatter<'_>) -> fmt::Result {
