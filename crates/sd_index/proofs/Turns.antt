@@ -57,6 +57,15 @@ turn-starts g s tab =
       within = omega arith;
     }
 
+-- the first that may not stand counts
+pub bad-stays : {v : Verdict} {r : Refusal} (w : Verdict) → v ≡ refused r → v ≡ (v >> w)
+unfolding _>>_
+bad-stays w e = rw e refl
+
+pub good-asks : {u v w : Verdict} → v ≡ pass → u ≡ w → u ≡ (v >> w)
+unfolding _>>_
+good-asks e same = rw e same
+
 then-assoc : (u v w : Verdict) → ((u >> v) >> w) ≡ (u >> (v >> w))
 unfolding _>>_
 then-assoc (accepted t) v w = refl

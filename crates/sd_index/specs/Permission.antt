@@ -1,11 +1,9 @@
 -- Whether an option may stand, by what the reading of one tells of it. Assumes nothing: these are definitions.
 use mathlib.Core.Bool.{Bool, true, not, _||_}
 use Rattle.numbers.specs.Refusals.{unknown-option}
-use Rattle.numbers.specs.Answers.{Verdict, pass, _>>_, refuse_when_else_}
+use Rattle.numbers.specs.Answers.{Verdict, pass, refuse_when_else_}
 use Rattle.sd_format.specs.Settings.{Settings}
 use Rattle.sd_format.specs.Kinds.{Kind, configuration, load-balancing, address, unknown, kind-of}
-use Rattle.refusal.specs.declared.answers.Verdict as code
-use Rattle.refusal.specs.Said.{verdict-said}
 use Rattle.sd_option.specs.declared.reading.OptionHead.{OptionHead}
 
 abbrev pub may : Settings → Kind → Bool → Bool
@@ -16,7 +14,3 @@ may g (address family role) discardable = true
 
 unfoldable pub permit-told : Settings → OptionHead → Verdict
 permit-told g h = refuse unknown-option (h .code) when not (may g (kind-of (h .code)) (h .discardable)) else pass
-
--- the earlier refusal, if there is one
-abbrev pub both : code.Verdict → code.Verdict → Verdict
-both earlier later = verdict-said earlier >> verdict-said later

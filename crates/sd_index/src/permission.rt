@@ -1,5 +1,4 @@
-// Whether an unknown option may stand: it needs the discardable bit, unless the discard setting is on. Of several options the first that may
-// not counts.
+// Whether an unknown option may stand: it needs the discardable bit, unless the discard setting is on.
 use refusal::Refusal;
 use refusal::Verdict;
 use sd_option::Settings;
@@ -9,7 +8,7 @@ use sd_option::reading::OptionHead;
 ghost use mathlib.Core.Path.{_≡_};
 ghost use Rattle.refusal.specs.Said.{verdict-said};
 ghost use Rattle.sd_option.specs.Settings.{settings-said};
-ghost use Rattle.sd_index.specs.Permission.{permit-told, both};
+ghost use Rattle.sd_index.specs.Permission.{permit-told};
 
 // Whether this option may stand.
 pub(crate) fn permission_of(settings: Settings, head: OptionHead) -> Verdict
@@ -26,14 +25,4 @@ pub(crate) fn permission_of(settings: Settings, head: OptionHead) -> Verdict
         return Verdict::Passed;
     }
     Verdict::Refused(Refusal::UnknownOption(head.code))
-}
-
-// The earlier refusal, if there is one.
-pub(crate) fn first(earlier: Verdict, later: Verdict) -> Verdict
-    ensures { λ r. ⌜ verdict-said r ≡ both earlier later ⌝ }
-{
-    let Verdict::Passed = earlier else {
-        return earlier;
-    };
-    later
 }

@@ -4,7 +4,6 @@ use crate::Offset;
 use crate::Ordinal;
 use crate::SLOTS;
 use crate::lookup::option_at;
-use crate::permission::first;
 use crate::permission::permission_of;
 use crate::slots::clear_slots;
 use crate::slots::write_slot;
@@ -40,9 +39,12 @@ fn sweep(settings: Settings, options: &[u8], table: &mut [u16]) -> Count
             return Count::Refused(string.refusal());
         };
         write_slot(table, count, at);
-        permission = first(permission, permission_of(settings, head));
         count = Ordinal(count.0 + 1);
         at = Offset(at.0 + head.size);
+        let Verdict::Passed = permission else {
+            continue; // the first that may not stand counts
+        };
+        permission = permission_of(settings, head);
     }
     let Verdict::Passed = permission else {
         return Count::Refused(permission.refusal());

@@ -6,7 +6,7 @@ use mathlib.Core.List.{List}
 use native.Mathlib.Omega.{arith}
 use borrow.Author.Needs.{needs}
 use lib.ListN.{length, drop}
-use Rattle.numbers.specs.Answers.{Verdict, refused, given, _>>_}
+use Rattle.numbers.specs.Answers.{refused, given}
 use Rattle.sd_format.specs.Kinds.{kind-of, judge-text, scanned, unscanned}
 use Rattle.sd_format.specs.Frames.{one-option}
 use Rattle.refusal.specs.declared.Refusal.{Refusal}
@@ -14,7 +14,7 @@ use Rattle.refusal.specs.Said.{said, verdict-said, verdict-refusal}
 use Rattle.sd_option.specs.Settings.{settings-said}
 use Rattle.sd_option.specs.Reading.{head-of, option-said, option-refusal, behind-type}
 use Rattle.sd_option.proofs.ReadingLaws.{Found, found, not-found, refused-before, string-refused, string-passed}
-use Rattle.sd_index.proofs.Turns.{Turn, turn-starts, turn-stops, turn-within, turn-goes, turn-refuses, turn-ends}
+use Rattle.sd_index.proofs.Turns.{Turn, turn-starts, bad-stays, good-asks, turn-stops, turn-within, turn-goes, turn-refuses, turn-ends}
 use Rattle.sd_index.proofs.reading.sweep.Statement.{statement}
 use Rattle.sd_index.proofs.reading.sweep.Tie as tie
 
@@ -73,33 +73,44 @@ whole c = let scan = c .before .before in string-passed _ _ (here (scan .before)
 
 add-t11-2 : tie.Need-add-t11-2 Inv-loop μ-loop
 add-t11-2 c =
-    let read = c .before .before .before .before .before .before .before .before .before in
+    let read = c .before .before .before .before .before .before .before in
     let turn = read .before .before .before .before .before .before .before .before in
     omega (arith, turn-within (turn .before .before .loop .inv) (turn .if1 .taken) _ (whole read))
 
 loop-less : tie.Need-loop-less Inv-loop μ-loop
 loop-less c = let t = whole (c .before .before .before .before .before .before .before .before .before) in omega arith
 
+-- an earlier option may not stand
 loop-again : tie.Need-loop-again Inv-loop μ-loop
 loop-again c =
-    let first = c .before .before .before in
-    let permission = first .before in
-    let slot = permission .before .before .before in
+    let slot = c .before .before .before .before .before .before .before in
     let read = slot .before .before in
     let turn = read .before .before .before .before .before .before .before .before in
     turn-goes (turn .before .before .loop .inv) (turn .if1 .taken) _ (whole read) (omega arith) (omega arith) _ (slot .write-slot .ensures) _
-    (first .first .ensures ∙ ap (λ (w : Verdict). verdict-said (turn .before .before .loop .permission) >> w) (permission .permission-of .ensures))
+    (bad-stays _ (ap verdict-said (c .enum-told5 .given .1)))
+
+loop-less-2 : tie.Need-loop-less-2 Inv-loop μ-loop
+loop-less-2 c = let t = whole (c .before .before .before .before .before .before .before .before .before .before) in omega arith
+
+-- all may stand so far
+loop-again-2 : tie.Need-loop-again-2 Inv-loop μ-loop
+loop-again-2 c =
+    let slot = c .before .before .before .before .before .before .before .before in
+    let read = slot .before .before in
+    let turn = read .before .before .before .before .before .before .before .before in
+    turn-goes (turn .before .before .loop .inv) (turn .if1 .taken) _ (whole read) (omega arith) (omega arith) _ (slot .write-slot .ensures) _
+    (good-asks (ap verdict-said (c .before .enum-told4 .given .1)) (c .permission-of .ensures))
 
 returns-3 : tie.Need-returns-3 Inv-loop μ-loop
 returns-3 c =
     let turn = c .before .before .before in
     turn-refuses (turn .before .before .loop .inv) (turn .if1 .left) (c .refusal3 .result)
-    (ap verdict-said (c .before .enum-told5 .given .1) ∙ ap (λ (r : Refusal). refused (said r)) (sym (c .refusal3 .ensures ∙ ap verdict-refusal (c .before .enum-told5 .given .1))))
+    (ap verdict-said (c .before .enum-told7 .given .1) ∙ ap (λ (r : Refusal). refused (said r)) (sym (c .refusal3 .ensures ∙ ap verdict-refusal (c .before .enum-told7 .given .1))))
 
 returns-4 : tie.Need-returns-4 Inv-loop μ-loop
 returns-4 c =
     let turn = c .before .before in
-    turn-ends (turn .before .before .loop .inv) (turn .if1 .left) (ap verdict-said (c .enum-told4 .given .1))
+    turn-ends (turn .before .before .loop .inv) (turn .if1 .left) (ap verdict-said (c .enum-told6 .given .1))
 
 pub sweep-spec : {M : Type 1} → statement M
 sweep-spec =
@@ -122,12 +133,15 @@ sweep-spec =
     (λ c. omega arith)
     returns-2
     (λ c κs. (omega arith, omega arith))
-    (λ c κs. search needs)
-    (λ c κs. search needs)
     (λ c. omega arith)
     add-t11-2
+    (λ c. search needs)
+    (λ c. search needs)
     loop-less
     loop-again
+    (λ c κs. search needs)
+    loop-less-2
+    loop-again-2
     (λ c. search needs)
     (λ c. search needs)
     (λ c κs. search needs)
