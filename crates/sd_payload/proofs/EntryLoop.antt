@@ -6,7 +6,7 @@ use native.Mathlib.Omega.{arith}
 use lib.ListN.{length, drop, length-drop}
 use lib.Seq.{drop-drop}
 use Rattle.numbers.specs.Refusals.{Refusal}
-use Rattle.numbers.specs.Answers.{Answer, accepted, refused, Verdict, pass, _>>=_, given, verdict}
+use Rattle.numbers.specs.Answers.{Answer, accepted, refused, pass, _>>=_, given, verdict}
 use Rattle.numbers.proofs.AnswerLaws.{given-accepted, given-refused}
 use Rattle.sd_format.specs.Sequences.{all}
 use Rattle.sd_format.specs.Entries.{Entry, sixteen, placed-entry, read-entries}

@@ -1,8 +1,8 @@
 pub mod SizeLaws
+pub mod HeaderLaws
 pub mod EntryLoop
 pub mod ReadLaws
-pub mod HeaderLaws
 pub mod PartLaws
-pub mod OneOutcome
 pub mod HandedOut
 pub mod OfTheCode
+pub mod OneOutcome

@@ -22,14 +22,14 @@ use Rattle.sd_format.proofs.EntryLaws.{length-entry, entry-lay, entry-read}
 use Rattle.sd_format.proofs.PayloadLaws.{read-says, bytes-options}
 use Rattle.sd_format.proofs.Demand3.{demand3, cursors}
 use Rattle.sd_format.proofs.CallLaws.{lent-exactly, message-exact}
-use Rattle.sd_payload.specs.declared.sizes.PartSizes.{PartSizes}
 use Rattle.sd_payload.specs.declared.reading.SdPayload.{SdPayload}
 use Rattle.sd_payload.specs.declared.reading.PayloadAnswer.{PayloadAnswer}
 use Rattle.sd_payload.specs.declared.reading.PayloadAnswer.the-variants.{Good, Refused}
-use Rattle.sd_payload.specs.Reads.{Summary, summed, payload-said, PayloadRead}
-use Rattle.sd_payload.specs.Sized.{sized-parts}
-use Rattle.sd_payload.specs.Parts.{or-none, handed}
+use Rattle.sd_payload.specs.Reads.{summed, payload-said, PayloadRead}
+use Rattle.sd_payload.specs.Sized.{sized}
+use Rattle.sd_payload.specs.Parts.{handed}
 use Rattle.sd_payload.specs.OfTheCode.{summary, Told, told, told-found, AsLaidOut, OfTheCode, OfTheMessage}
+use Rattle.sd_payload.proofs.PartLaws.{handed-part}
 use Rattle.sd_payload.proofs.HandedOut.{frame-told, frames-told, take-map, drop-map, entries-too, options-too, found-told, run-too}
 
 -- ---- what is accepted
@@ -38,16 +38,15 @@ bytes-entries : (s : List ℕ) → Bytes s → Bytes (entries-part s)
 unfolding entries-part
 bytes-entries s b = bytes-take (drop 8 s) (entries-length s) (bytes-drop s 8 b)
 
-good : (r : PayloadAnswer) (u : Summary) → payload-said r ≡ accepted u → (p : SdPayload) × (r ≡ Good p)
+good : (r : PayloadAnswer) (u : SdPayload) → payload-said r ≡ accepted u → (p : SdPayload) × (r ≡ Good p)
 good (Good p) u e = (p, refl)
 good (Refused r) u e = not-refused _ u e
 
 -- the parts of a payload that was accepted
-handed-whole : (g : Settings) (s : List ℕ) (rd : Reading) (r : PayloadAnswer) (p : SdPayload) (part : List ℕ) → read-payload g s ≡ accepted rd → r ≡ Good p
-    → handed r s part ≡ part
-unfolding read-payload sized-parts
-handed-whole g s rd r p part read e =
-    rw e (ap (λ (a : Answer PartSizes). or-none a part) (then-pass _ _ (then-accepted _ _ rd read .0)))
+handed-whole : (g : Settings) (s : List ℕ) (rd : Reading) (r : PayloadAnswer) (p : SdPayload) (bytes : List ℕ) → read-payload g s ≡ accepted rd → r ≡ Good p
+    → handed r s bytes ≡ bytes
+unfolding read-payload sized
+handed-whole g s rd r p bytes read e = rw e (sym (handed-part (Good p) s _ (then-pass _ _ (then-accepted _ _ rd read .0)) bytes))
 
 module _ (g : Settings) (s tab tab′ : List ℕ) (r : PayloadAnswer) (b : Bytes s) (long : 347 ≤ length tab) (h : PayloadRead (read-payload g s) tab tab′ r) where
   came : payload-said r ≡ given summed (read-payload g s)
@@ -125,7 +124,7 @@ module _ (g : Settings) (s tab tab′ : List ℕ) (r : PayloadAnswer) (b : Bytes
         }
 
     count-is : (p : SdPayload) → r ≡ Good p → p .options ≡ length (q .options)
-    count-is p e = ap (λ (u : Summary). u .options) (accepted-inj _ (summary q) (sym (ap payload-said e) ∙ answered))
+    count-is p e = ap (λ (u : SdPayload). u .options) (accepted-inj _ (summary q) (sym (ap payload-said e) ∙ answered))
 
     after-it : (p : SdPayload) → r ≡ Good p → (entries options : List ℕ) → entries ≡ handed r s (entries-part s) → options ≡ handed r s (options-part s)
         → AsLaidOut q r (p .options) tab′ entries options

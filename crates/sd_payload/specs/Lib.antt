@@ -1,4 +1,5 @@
 pub mod Sized
+pub mod Header
 pub mod Reads
 pub mod Parts
 pub mod OfTheCode

@@ -12,43 +12,45 @@ use Rattle.sd_format.specs.Options.{Opt}
 use Rattle.sd_format.specs.Layout.{lay-option, wire, lay-entries, lay-options, Payload, lay, Fits, Header, lay-header}
 use Rattle.sd_format.specs.Payload.{entries-part, options-part}
 use Rattle.sd_format.specs.Demand3.{LaidOut}
-use Rattle.sd_option.specs.declared.Ordinal.{Ordinal}
-use Rattle.sd_option.specs.Reading.{Head, head-of, option-said}
+use Rattle.sd_option.specs.declared.reading.OptionHead.{OptionHead}
+use Rattle.sd_option.specs.Reading.{head-of, option-said}
 use Rattle.sd_entry.specs.declared.cursor.EntryCursor.{EntryCursor}
 use Rattle.sd_entry.specs.declared.cursor.EntryStep.{EntryStep}
 use Rattle.sd_entry.specs.Said.{answer-said}
 use Rattle.sd_entry.specs.Steps.{Stepped}
+use Rattle.sd_index.specs.declared.Ordinal.{Ordinal}
+use Rattle.sd_index.specs.declared.lookup.Found.{Found}
 use Rattle.sd_index.specs.declared.lookup.FoundAnswer.{FoundAnswer}
 use Rattle.sd_index.specs.declared.cursor.OptionCursor.{OptionCursor}
 use Rattle.sd_index.specs.declared.cursor.OptionStep.{OptionStep}
 use Rattle.sd_index.specs.declared.cursor.RunCursor.{RunCursor}
 use Rattle.sd_index.specs.declared.cursor.RunStep.{RunStep}
-use Rattle.sd_index.specs.Found.{Located, found-said, look-up-told}
+use Rattle.sd_index.specs.Found.{found-said, look-up-told}
 use Rattle.sd_index.specs.Steps.{OptionStepped, run-of, run-said, RunStepped}
 use Rattle.sd_payload.specs.declared.reading.SdPayload.{SdPayload}
 use Rattle.sd_payload.specs.declared.reading.PayloadAnswer.{PayloadAnswer}
 use Rattle.sd_payload.specs.declared.reading.PayloadAnswer.the-variants.{Good}
-use Rattle.sd_payload.specs.Reads.{Summary, payload-said}
+use Rattle.sd_payload.specs.Reads.{flags-laid, payload-said}
 use Rattle.sd_payload.specs.Parts.{handed}
 
 -- what an answer tells of a payload
-abbrev pub summary : Payload → Summary
-summary q = record { flags = q .flags; entries = length (q .entries); options = length (q .options) }
+abbrev pub summary : Payload → SdPayload
+summary q = record { flags = flags-laid (q .flags); entries = length (q .entries); options = length (q .options) }
 
 -- an option as it is handed out: what is told of it, and its own bytes
 pub record Told : Type 0 where
-  pub head : Head
+  pub head : OptionHead
   pub bytes : List ℕ
 
 abbrev pub told : Opt → Told
 told o = record { head = head-of (wire o); bytes = lay-option o }
 
 -- the bytes of an option of which the head was told, at its place in the options part
-abbrev pub told-at : List ℕ → ℕ → Head → Told
+abbrev pub told-at : List ℕ → ℕ → OptionHead → Told
 told-at part at h = record { head = h; bytes = take (h .size) (drop at part) }
 
-abbrev pub told-found : List ℕ → Located → Told
-told-found part l = told-at part (l .offset) (l .head)
+abbrev pub told-found : List ℕ → Found → Told
+told-found part l = told-at part (l .offset .0) (l .head)
 
 -- After the payload that `q` lays out was read with the answer `r` and the table `tab`, of so many options, and the two parts were handed out. A
 -- cursor is any function that meets the promise of its `next`, from any cursor that meets the promise of its `new`.

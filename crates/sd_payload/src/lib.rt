@@ -13,6 +13,4 @@ pub use reading::SdHeaderFlags;
 pub use reading::SdPayload;
 pub use reading::read_message;
 pub use reading::read_payload;
-pub use sizes::PartSizes;
-pub use sizes::SizesAnswer;
 pub use sizes::judge_sizes;

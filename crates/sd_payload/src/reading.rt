@@ -1,28 +1,34 @@
 // The reading of a whole payload, and of the message that carries one. The first part that refuses ends the whole reading.
 use crate::entries::judge_entries;
 use crate::header::HEADER_LEN;
-use crate::header::HeaderVerdict;
 use crate::header::judge_header;
-use crate::sizes::PartSizes;
-use crate::sizes::SizesAnswer;
+use crate::sizes::ENTRIES_START;
+use crate::sizes::MIN_PAYLOAD_LEN;
 use crate::sizes::judge_sizes;
+use refusal::Count;
 use refusal::Refusal;
-use sd_entry::EntryVerdict;
-use sd_index::IndexAnswer;
+use refusal::Verdict;
+use sd_entry::ENTRY_LEN;
 use sd_index::SLOTS;
-use sd_index::Settings;
 use sd_index::clear_slots;
 use sd_index::read_options;
+use sd_option::Settings;
 ghost use mathlib.Core.Path.{_≡_};
 ghost use Prim.Native.Nat.{_≤_};
 ghost use lib.ListN.{length};
 ghost use Rattle.numbers.specs.Answers.{accepted};
 ghost use Rattle.sd_format.specs.Payload.{flags, read-payload, read-message};
-ghost use Rattle.sd_index.specs.Said.{settings-said};
-ghost use Rattle.sd_payload.specs.Sized.{sized-parts, sizes-refusal};
-ghost use Rattle.sd_payload.specs.Reads.{flags-said, index-refusal, entry-refusal, header-refusal, PayloadRead};
+ghost use Rattle.sd_option.specs.Settings.{settings-said};
+ghost use Rattle.sd_payload.specs.Sized.{sized};
+ghost use Rattle.sd_payload.specs.Reads.{flags-laid, PayloadRead};
 
-// The three flags of byte 0.
+// The three flags of byte 0, by the bits that they have there.
+pub const REBOOT: u8 = 0x80;
+
+pub const UNICAST: u8 = 0x40;
+
+pub const EXPLICIT_INITIAL_DATA_CONTROL: u8 = 0x20;
+
 pub struct SdHeaderFlags {
     pub reboot: bool,
     pub unicast: bool,
@@ -43,79 +49,39 @@ pub enum PayloadAnswer {
 
 // The flags of byte 0, whose other bits are ignored.
 fn flags_of(byte: u8) -> SdHeaderFlags
-    ensures { λ r. ⌜ flags-said r ≡ flags byte ⌝ }
+    ensures { λ r. ⌜ r ≡ flags-laid (flags byte) ⌝ }
 {
     SdHeaderFlags {
-        reboot: byte / 0x80 % 2 == 1,
-        unicast: byte / 0x40 % 2 == 1,
-        explicit_initial_data_control: byte / 0x20 % 2 == 1,
+        reboot: byte / REBOOT % 2 == 1,
+        unicast: byte / UNICAST % 2 == 1,
+        explicit_initial_data_control: byte / EXPLICIT_INITIAL_DATA_CONTROL % 2 == 1,
     }
 }
 
-// Why the sizes were refused.
-fn sizes_refusal(answer: SizesAnswer) -> Refusal
-    ensures { λ r. ⌜ r ≡ sizes-refusal answer ⌝ }
-{
-    match answer {
-        SizesAnswer::Good(_) => Refusal::NothingThere,
-        SizesAnswer::Refused(refusal) => refusal,
-    }
-}
-
-// Why the options were refused.
-fn index_refusal(answer: IndexAnswer) -> Refusal
-    ensures { λ r. ⌜ r ≡ index-refusal answer ⌝ }
-{
-    match answer {
-        IndexAnswer::Good(_) => Refusal::NothingThere,
-        IndexAnswer::Refused(refusal) => refusal,
-    }
-}
-
-// Why the entries were refused.
-fn entry_refusal(verdict: EntryVerdict) -> Refusal
-    ensures { λ r. ⌜ r ≡ entry-refusal verdict ⌝ }
-{
-    match verdict {
-        EntryVerdict::Passed => Refusal::NothingThere,
-        EntryVerdict::Refused(refusal) => refusal,
-    }
-}
-
-// Why the header was refused.
-fn header_refusal(verdict: HeaderVerdict) -> Refusal
-    ensures { λ r. ⌜ r ≡ header-refusal verdict ⌝ }
-{
-    match verdict {
-        HeaderVerdict::Passed => Refusal::NothingThere,
-        HeaderVerdict::Refused(refusal) => refusal,
-    }
-}
-
-// The options and then the entries of a payload whose sizes passed.
+// The options and then the entries of a payload whose sizes passed, with entries of this length.
 fn read_parts(
     settings: Settings,
     payload: &[u8],
-    parts: PartSizes,
+    entries_len: usize,
     table: &mut [u16],
 ) -> PayloadAnswer
-    requires { ⌜ (347 ≤ length (now table)) × (sized-parts (now payload) ≡ accepted parts) ⌝ }
+    requires { ⌜ (347 ≤ length (now table)) × (sized (now payload) ≡ accepted «entries_len») ⌝ }
     ensures { λ r. ⌜ PayloadRead (read-payload (settings-said settings) (now (payload .entry))) (now (table .entry)) (now (table .exit)) r ⌝ }
 {
-    let from = 12 + parts.entries;
+    let from = MIN_PAYLOAD_LEN + entries_len;
     let index = read_options(settings, &payload[from..], table);
-    let IndexAnswer::Good(options) = index else {
-        return PayloadAnswer::Refused(index_refusal(index));
+    let Count::Good(options) = index else {
+        return PayloadAnswer::Refused(index.refusal());
     };
-    let to = 8 + parts.entries;
-    let verdict = judge_entries(&payload[8..to], options);
-    let EntryVerdict::Passed = verdict else {
+    let to = ENTRIES_START + entries_len;
+    let verdict = judge_entries(&payload[ENTRIES_START..to], options);
+    let Verdict::Passed = verdict else {
         clear_slots(table);
-        return PayloadAnswer::Refused(entry_refusal(verdict));
+        return PayloadAnswer::Refused(verdict.refusal());
     };
     PayloadAnswer::Good(SdPayload {
         flags: flags_of(payload[0]),
-        entries: parts.entries / 16,
+        entries: entries_len / ENTRY_LEN,
         options,
     })
 }
@@ -128,11 +94,11 @@ pub fn read_payload(settings: Settings, payload: &[u8], table: &mut [u16]) -> Pa
         return PayloadAnswer::Refused(Refusal::FewSlots(table.len()));
     }
     let sizes = judge_sizes(payload);
-    let SizesAnswer::Good(parts) = sizes else {
+    let Count::Good(entries_len) = sizes else {
         clear_slots(table);
-        return PayloadAnswer::Refused(sizes_refusal(sizes));
+        return PayloadAnswer::Refused(sizes.refusal());
     };
-    read_parts(settings, payload, parts, table)
+    read_parts(settings, payload, entries_len, table)
 }
 
 // The payload of a message with its SD header: 22, the header, then all later bytes as the payload.
@@ -143,9 +109,9 @@ pub fn read_message(settings: Settings, message: &[u8], table: &mut [u16]) -> Pa
         return PayloadAnswer::Refused(Refusal::FewSlots(table.len()));
     }
     let verdict = judge_header(message);
-    let HeaderVerdict::Passed = verdict else {
+    let Verdict::Passed = verdict else {
         clear_slots(table);
-        return PayloadAnswer::Refused(header_refusal(verdict));
+        return PayloadAnswer::Refused(verdict.refusal());
     };
     read_payload(settings, &message[HEADER_LEN..], table)
 }
