@@ -3,6 +3,7 @@ pub mod TpLaws
 pub mod ToldLaws
 pub mod FieldLaws
 pub mod ItemLaws
+pub mod PlaceLaws
 pub mod OneOutcome
 pub mod Telling
 pub mod HandedLaws

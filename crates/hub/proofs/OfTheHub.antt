@@ -1,32 +1,47 @@
 -- Demand 3 of what C calls, from the promises of the exported functions and from demand 3 of the definitions. Assumes nothing.
-use Prim.Native.Nat.{ℕ, zero, suc, _+_, _*_, _≤_, _<_}
+use Prim.Native.Nat.{ℕ, zero, suc, _+_, _*_, _-_, _/_, _%_, _≤_, _<_}
 use mathlib.Core.Path.{_≡_, refl, sym, ap, _∙_, subst}
-use mathlib.Core.Logic.{_⊎_, inl, inr}
+use mathlib.Core.Logic.{_⊎_, inl, inr, _↔_}
 use mathlib.Core.Bool.{Bool, true, false, cond}
-use mathlib.Core.List.{List, [], _∷_, _++_}
-use native.Mathlib.Nat.{mul-suc}
+use mathlib.Core.List.{List, [], _∷_, _++_, map}
+use native.Mathlib.Nat.{mul-suc, zero-mul, one-mul, add-zero, zero-add, add-assoc, min-le-left}
 use native.Mathlib.Omega.{arith}
-use lib.ListN.{length, take, drop, getD, length-append}
-use lib.Seq.{length-take-le}
+use lib.ListN.{length, take, drop, getD, length-append, length-drop, length-take, length-map}
+use lib.Seq.{length-take-le, take-all}
+use borrow.Author.Tests.{eqb-true, eq-eqb, ne-eqb}
 use lib.Dec.{eqb}
 use Rattle.numbers.specs.Refusals.{nothing-there}
 use Rattle.numbers.specs.Answers.{Answer, accepted, refused, refuse_when_else_, given, All}
 use Rattle.sd_format.specs.Settings.{Settings}
-use Rattle.sd_format.specs.Sequences.{counted}
+use Rattle.numbers.specs.Answers as paper
+use Rattle.numbers.specs.Bytes.{Bytes}
+use Rattle.numbers.proofs.AnswerLaws.{given-accepted, then-accepted, then-pass}
+use Rattle.numbers.proofs.ByteLaws.{bytes-drop}
+use Rattle.sd_format.specs.Sequences.{counted, starts}
 use Rattle.sd_format.specs.Options.{Opt}
 use Rattle.sd_format.specs.Kinds.{scanned}
-use Rattle.sd_format.specs.Frames.{Frame, size, read-option, look-up, next-option, next-of-run}
+use Rattle.sd_format.specs.Frames.{Frame, size, slots, read-option, look-up, next-option, next-of-run}
 use Rattle.sd_format.specs.Entries.{Entry, read-entry, next-entry}
 use Rattle.sd_format.specs.Fields.{fields}
-use Rattle.sd_format.specs.Layout.{lay-all, lay-entry, lay-option, lay-entries, lay-options, EntryFits, OptionFits, wire}
+use Rattle.sd_format.specs.Layout.{lay-all, lay-entry, lay-option, lay-entries, lay-options, EntryFits, OptionFits, wire, Payload, lay-opening, lay-parts}
+use Rattle.sd_format.specs.Payload.{entries-length, entries-part, options-part, Reading, flags, read-payload, shown, handed-out, read-message}
+use Rattle.sd_format.specs.Demand3.{LaidOut, table-left}
 use Rattle.sd_format.proofs.FrameLaws.{lay-frame, length-frame, option-lay}
 use Rattle.sd_format.proofs.FieldLaws.{wired}
 use Rattle.sd_format.proofs.EntryLaws.{length-entry, entry-lay, entry-plain}
+use Rattle.sd_format.proofs.PayloadLaws.{length-opening, part-entries, part-options, lay-read, ReadSays, read-says}
+use Rattle.sd_format.proofs.CallLaws.{lent-exactly, tables-left, message-exact}
+use Rattle.sd_format.proofs.Demand3.{demand3}
 use Rattle.sd_field.specs.Said.{Decoded, decoded}
+use Rattle.sd_payload.specs.Sized.{sized}
+use Rattle.sd_payload.specs.Reads.{flags-laid, summed}
+use Rattle.hub.specs.declared.answers.Answer as hub
+use Rattle.hub.specs.declared.payload.Places.{Places}
 use Rattle.hub.specs.Answers.{row, told, option-values}
+use Rattle.hub.specs.Payload.{settings-of, flag-bits, summary-values, Reads, nowhere, places-of, placed, places-told}
 use Rattle.hub.specs.Entries.{entry-told}
 use Rattle.hub.specs.Options.{option-told, read-option-told, option-fields}
-use Rattle.hub.specs.OfTheHub.{start, laid-values, told-of, HandedToC}
+use Rattle.hub.specs.OfTheHub.{start, laid-values, told-of, HandedToC, PartsOf, ToldToC, OfTheHub, OfTheMessage}
 use Rattle.hub.proofs.HandedLaws.{stands-there, there-or-not, past-end, next-laid}
 
 -- ---- an entry and an option in front of other bytes
@@ -71,6 +86,17 @@ module _ (n : ℕ) where
           past-end read-entry lay-entry (λ e. e) (EntryFits n) (entry-read n) long (lay-entries es) (16 * k) (rw sixteen-each (omega arith)) ∙ sym e
 
 -- ---- the options
+
+-- where option k starts: behind the layouts of those before it
+start-from : (g : Settings) (os : List Opt) → All (OptionFits g) os → (at k : ℕ) → k < length os → getD (starts size at (map wire os)) k 0 ≡ at + start os k
+unfolding starts lay-all
+start-from g [] w at k h = absurd (omega arith)
+start-from g (o ∷ os) w at zero h = sym (add-zero at)
+start-from g (o ∷ os) w at (suc k) h =
+    start-from g os (w .1) (at + size (wire o)) k (omega arith)
+    ∙ ap (λ (n : ℕ). at + n + start os k) (size-laid g o (w .0))
+    ∙ add-assoc at (length (lay-option o)) (start os k)
+    ∙ ap (λ (n : ℕ). at + n) (sym (length-append (lay-option o) (lay-options (take k os))))
 
 module _ (g : Settings) (os : List Opt) (w : All (OptionFits g) os) where
   some-bytes : (o : Opt) → OptionFits g o → 1 ≤ length (lay-option o)
@@ -131,3 +157,162 @@ module _ (g : Settings) (os : List Opt) (w : All (OptionFits g) os) where
           runs = λ next left r e. e ∙ of-run next left;
           fields = λ k o e r is. is ∙ fields-told k o e;
         }
+
+-- ---- the payload
+
+-- a flag's bit
+bit-worth : (x v : ℕ) → x < 2 → cond (eqb x 1) v 0 ≡ x * v
+bit-worth zero v h = sym (zero-mul v)
+bit-worth (suc zero) v h = sym (one-mul v)
+bit-worth (suc (suc x)) v h = absurd (omega arith)
+
+-- the three flags are the three high bits of byte 0
+flags-as-sent : (b : ℕ) → b < 256 → flag-bits (flags-laid (flags b)) ≡ b / 32 * 32
+flags-as-sent b small =
+    let top : b / 128 % 2 ≡ b / 128 = omega arith in
+    let middle : b / 64 ≡ 2 * (b / 128) + b / 64 % 2 = omega arith in
+    let low : b / 32 ≡ 2 * (b / 64) + b / 32 % 2 = omega arith in
+    (λ i. bit-worth (b / 128 % 2) 128 (omega arith) i + bit-worth (b / 64 % 2) 64 (omega arith) i + bit-worth (b / 32 % 2) 32 (omega arith) i) ∙ omega arith
+
+take-its-length : (n : ℕ) (l : List ℕ) → take (length (take n l)) l ≡ take n l
+take-its-length zero l = refl
+take-its-length (suc n) [] = refl
+take-its-length (suc n) (x ∷ l) = ap (λ (t : List ℕ). x ∷ t) (take-its-length n l)
+
+module _ (word : ℕ) (s tab tab′ : List ℕ) (r : hub.Answer) (b : Bytes s) (long : 347 ≤ length tab) (h : Reads (read-payload (settings-of word) s) tab r tab′) where
+  abbrev g : Settings
+  g = settings-of word
+
+  -- over a payload that is laid out
+
+  module _ (q : Payload) (laid : LaidOut g s q) where
+    abbrev F : List ℕ
+    F = lay-opening (q .flags) (q .spare) (q .reserved)
+
+    four : length F ≡ 4
+    four = length-opening (q .flags) (q .spare) (q .reserved)
+
+    abbrev rd : Reading
+    rd = record { opening = F; entries = q .entries; frames = map wire (q .options) }
+
+    read : read-payload g s ≡ accepted rd
+    read = ap (read-payload g) (sym (laid .1)) ∙ lay-read g q (laid .0)
+
+    first-byte : getD F 0 0 ≡ getD s 0 0
+    unfolding lay-parts lay-opening
+    first-byte = ap (λ (l : List ℕ). getD l 0 0) (laid .1)
+
+    answer : r ≡ row 0 ((getD s 0 0 / 32 * 32) ∷ length (q .entries) ∷ length (q .options) ∷ [])
+    unfolding given
+    answer =
+        h .answers ∙ ap (λ (a : paper.Answer Reading). told summary-values (given summed a)) (lent-exactly tab (read-payload g s) .enough long ∙ read)
+        ∙ (λ i. row 0 (flag-bits (flags-laid (flags (first-byte i))) ∷ length (q .entries) ∷ length-map (q .options) wire i ∷ []))
+        ∙ (λ i. row 0 (flags-as-sent (getD s 0 0) (b 0) i ∷ length (q .entries) ∷ length (q .options) ∷ []))
+
+    entries-laid : entries-part s ≡ lay-entries (q .entries)
+    unfolding lay-parts
+    entries-laid = ap entries-part (sym (laid .1)) ∙ part-entries F (lay-entries (q .entries)) (lay-options (q .options)) four
+
+    options-laid : options-part s ≡ lay-options (q .options)
+    unfolding lay-parts
+    options-laid = ap options-part (sym (laid .1)) ∙ part-options F (lay-entries (q .entries)) (lay-options (q .options)) four
+
+    says : ReadSays g s rd
+    says = read-says g s rd read
+
+    sizes-pass : sized s ≡ accepted (entries-length s)
+    unfolding sized read-payload
+    sizes-pass = then-pass _ _ (then-accepted _ _ rd read .0)
+
+    parts-of : PartsOf q s (places-of s)
+    unfolding entries-part options-part
+    parts-of =
+        let z = says .sizes-fit in
+        let opts : length (options-part s) ≡ length s - (12 + entries-length s) = length-drop (12 + entries-length s) s in
+        let ents : length (entries-part s) ≤ entries-length s = rw length-take (min-le-left _ _) in
+        record {
+          entries = take-its-length (entries-length s) (drop 8 s) ∙ entries-laid;
+          entries-inside = omega arith;
+          options = take-all (length (options-part s)) (drop (12 + entries-length s) s) (omega arith) ∙ options-laid;
+          options-inside = omega arith;
+        }
+
+    parts : (p : Places) → p ≡ places-told (r .number) s → PartsOf q s p
+    parts p e =
+        let zero-number : r .number ≡ 0 = ap (λ (a : hub.Answer). a .number) answer in
+        let here : p ≡ places-of s = e ∙ ap (λ (n : ℕ). places-told n s) zero-number ∙ ap (placed s) sizes-pass in
+        subst (PartsOf q s) (sym here) parts-of
+
+    table-is : tab′ ≡ table-left g s tab
+    table-is = h .slots
+
+    looked : (k : ℕ) → look-up (lay-options (q .options)) tab′ (length (q .options)) k ≡ given wire (counted (q .options) k)
+    unfolding slots
+    looked k =
+        ap (λ (l : List ℕ). look-up l tab′ (length (q .options)) k) (sym options-laid)
+        ∙ ap (λ (t : List ℕ). look-up (options-part s) t (length (q .options)) k) table-is
+        ∙ demand3 g s b .looked-up q (demand3 g s b .handed q .1 laid) tab long k
+
+    slot : (k : ℕ) → k < length (q .options) → getD tab′ k 0 ≡ start (q .options) k
+    unfolding given
+    slot k inside =
+        ap (λ (t : List ℕ). getD t k 0) table-is
+        ∙ tables-left .payload g s tab .offsets long (map wire (q .options)) (ap (given (λ (x : Reading). x .frames)) read) k (omega (arith, length-map (q .options) wire))
+        ∙ start-from g (q .options) (laid .0 .options-fit) 0 k inside ∙ zero-add (start (q .options) k)
+
+    told-to-c : ToldToC q s tab′ r
+    told-to-c =
+        record {
+          answer = answer;
+          parts = parts;
+          handed = handed-to-c g (q .options) (laid .0 .options-fit) (length (q .options)) (q .entries) (laid .0 .entries-fit) tab′ looked slot;
+        }
+
+  laid-out : r .number ≡ 0 → (q : Payload) × LaidOut g s q
+  unfolding handed-out given
+  laid-out z =
+      let (rd, read) = h .zero z in
+      let plain : read-payload g s ≡ accepted rd = sym (lent-exactly tab (read-payload g s) .enough long) ∙ read in
+      (shown rd, demand3 g s b .handed (shown rd) .0 (ap (given shown) plain))
+
+  discards : (g .discard ≡ true) ↔ (word % 2 ≡ 1)
+  discards = ((λ e. omega (arith, eqb-true (word / 1 % 2) 1 e)), (λ e. eq-eqb (word / 1 % 2) 1 (omega arith)))
+
+  empty-parts : (r .number ≡ 0 → ⊥) → (p : Places) → p ≡ places-told (r .number) s → p ≡ nowhere
+  empty-parts nz p e = e ∙ ap (λ (t : Bool). cond t (placed s (sized s)) nowhere) (ne-eqb (r .number) 0 nz)
+
+  pub of-the-hub : OfTheHub word s tab′ r
+  of-the-hub =
+      record {
+        discards = discards;
+        exactly = (laid-out, λ a. ap (λ (x : hub.Answer). x .number) (answer (a .0) (a .1)));
+        after = told-to-c;
+        empty-parts = empty-parts;
+      }
+
+-- ---- the message
+
+module _ (word : ℕ) (m tab tab′ : List ℕ) (r : hub.Answer) (b : Bytes m) (long : 347 ≤ length tab) (h : Reads (read-message (settings-of word) m) tab r tab′) where
+  message-read : r .number ≡ 0 → (rd : Reading) × (read-message (settings-of word) m ≡ accepted rd)
+  message-read z = let (rd, read) = h .zero z in (rd, sym (lent-exactly tab (read-message (settings-of word) m) .enough long) ∙ read)
+
+  -- the reading of the payload behind the header promises the same
+  payload-behind : r .number ≡ 0 → Reads (read-payload (settings-of word) (drop 16 m)) tab r tab′
+  unfolding read-message
+  payload-behind z =
+      let (rd, read) = message-read z in
+      let same : read-message (settings-of word) m ≡ read-payload (settings-of word) (drop 16 m) = read ∙ sym (then-accepted _ _ rd read .1) in
+      subst (λ (a : paper.Answer Reading). Reads a tab r tab′) same h
+
+  pub of-the-message : OfTheMessage word m tab′ r
+  unfolding given
+  of-the-message =
+      record {
+        exactly = (
+          (λ z. let (rd, read) = message-read z in (shown rd, message-exact (settings-of word) m b .handed (shown rd) .0 (ap (given shown) read))),
+          (λ a.
+              let (rd, read, same) = given-accepted shown (read-message (settings-of word) m) (a .0) (message-exact (settings-of word) m b .handed (a .0) .1 (a .1)) in
+              ap (λ (x : hub.Answer). x .number) (h .answers ∙ ap (λ (x : paper.Answer Reading). told summary-values (given summed x)) (lent-exactly tab (read-message (settings-of word) m) .enough long ∙ read))),
+        );
+        after = λ z. of-the-hub word (drop 16 m) tab tab′ r (bytes-drop m 16 b) long (payload-behind z);
+      }

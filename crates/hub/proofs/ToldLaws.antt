@@ -1,20 +1,28 @@
 -- Answers as numbers, from the promises of the crates that answer. Assumes nothing.
 use Prim.Native.Nat.{ℕ}
-use mathlib.Core.Path.{_≡_, refl, ap, _∙_}
+use mathlib.Core.Path.{_≡_, refl, sym, ap, _∙_, subst}
 use mathlib.Core.List.{List}
 use Rattle.numbers.specs.Refusals.{Refusal}
 use Rattle.numbers.specs.Answers.{given}
 use Rattle.numbers.specs.Answers as paper
-use Rattle.sd_format.specs.Frames.{Frame, read-index}
+use Rattle.numbers.proofs.AnswerLaws.{given-accepted}
+use Rattle.sd_format.specs.Frames.{Frame, lent, read-index}
+use Rattle.sd_format.specs.Payload.{Reading}
 use Rattle.refusal.specs.declared.values.Numbers.{Numbers}
 use Rattle.refusal.specs.declared.answers.Count.{Count}
 use Rattle.refusal.specs.Said.{laid, count-said}
 use Rattle.sd_option.specs.Reading.{head-of}
 use Rattle.sd_index.specs.Found.{located}
 use Rattle.sd_index.specs.Indexed.{Indexed}
+use Rattle.sd_payload.specs.declared.reading.SdPayload.{SdPayload}
+use Rattle.sd_payload.specs.declared.reading.PayloadAnswer.{PayloadAnswer}
+use Rattle.sd_payload.specs.declared.reading.PayloadAnswer.the-variants.{Good, Refused}
+use Rattle.sd_payload.specs.Reads.{summed, payload-said, PayloadRead}
 use Rattle.hub.specs.declared.answers.Answer.{Answer}
 use Rattle.hub.specs.Answers.{without-count, refusal-row, told, one-value, head-values, located-values, option-values}
 use Rattle.hub.specs.Options.{Indexes}
+use Rattle.hub.specs.Payload.{summary-values, Reads}
+use Rattle.hub.proofs.Telling.{telling}
 
 -- a number with its values as data is that row
 pub rowed : (r : Refusal) {n : Numbers} {a : Answer} → n ≡ laid r → a ≡ without-count n → a ≡ refusal-row r
@@ -34,3 +42,23 @@ headed-told at (paper.refused r) = refl
 -- a lent table
 pub indexes : (s tab tab′ : List ℕ) (a : Count) (r : Answer) → Indexed (read-index s) tab tab′ a → r ≡ told one-value (count-said a) → Indexes s tab r tab′
 indexes s tab tab′ a r i e = record { answers = e ∙ ap (told one-value) (i .told); slots = i .slots }
+
+-- a refusal of the code never has the number of an acceptance
+zero-good : (a : PayloadAnswer) (r : Answer) → r ≡ told summary-values (payload-said a) → r .number ≡ 0 → (p : SdPayload) × (payload-said a ≡ paper.accepted p)
+zero-good (Good p) r e z = (p, refl)
+zero-good (Refused q) r e z = absurd (telling summary-values .never-zero q (sym (ap (λ (x : Answer). x .number) e) ∙ z))
+
+reads : (x : paper.Answer Reading) (tab tab′ : List ℕ) (a : PayloadAnswer) (r : Answer) → PayloadRead x tab tab′ a → r ≡ told summary-values (payload-said a) → Reads x tab r tab′
+reads x tab tab′ a r p e =
+    record {
+      answers = e ∙ ap (told summary-values) (p .told);
+      slots = p .slots;
+      zero = λ z.
+          let (found, said) = zero-good a r e z in
+          let (rd, read, same) = given-accepted summed (lent tab x) found (sym (p .told) ∙ said) in
+          (rd, read);
+    }
+
+-- the same under the settings that a word tells
+pub reads-as : {x y : paper.Answer Reading} → x ≡ y → (tab tab′ : List ℕ) (a : PayloadAnswer) (r : Answer) → PayloadRead x tab tab′ a → r ≡ told summary-values (payload-said a) → Reads y tab r tab′
+reads-as {x} same tab tab′ a r p e = subst (λ (y : paper.Answer Reading). Reads y tab r tab′) same (reads x tab tab′ a r p e)

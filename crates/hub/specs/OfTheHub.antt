@@ -1,8 +1,9 @@
 -- Demand 3 of what C calls: what is so of every outcome that the promises of the exported functions allow, all for what was laid out;
 -- proofs/OfTheHub.antt proves it. Places are counted in the layout, and no word of the reading stands here. Assumes nothing: these are definitions.
-use Prim.Native.Nat.{ℕ, _*_, _≤_}
+use Prim.Native.Nat.{ℕ, _+_, _*_, _/_, _%_, _≤_}
 use mathlib.Core.Path.{_≡_}
-use mathlib.Core.Bool.{cond}
+use mathlib.Core.Bool.{true, cond}
+use mathlib.Core.Logic.{_↔_}
 use mathlib.Core.List.{List, [], _∷_}
 use lib.ListN.{length, take, drop, getD}
 use lib.Dec.{eqb}
@@ -11,14 +12,18 @@ use Rattle.sd_format.specs.Sequences.{counted}
 use Rattle.sd_format.specs.Options.{Opt}
 use Rattle.sd_format.specs.Frames.{look-up, next-option, next-of-run}
 use Rattle.sd_format.specs.Entries.{Entry, next-entry}
-use Rattle.sd_format.specs.Layout.{lay-option, lay-entries, lay-options}
+use Rattle.sd_format.specs.Layout.{lay-option, lay-entries, lay-options, Payload}
+use Rattle.sd_format.specs.Demand3.{LaidOut}
 use Rattle.sd_index.specs.Steps.{run-of}
+use Rattle.sd_payload.specs.OfTheCode.{MessageLaidOut}
 use Rattle.hub.specs.declared.answers.Answer.{Answer}
 use Rattle.hub.specs.declared.entries.Entry as exported
 use Rattle.hub.specs.declared.options.Option.{Option}
+use Rattle.hub.specs.declared.payload.Places.{Places}
 use Rattle.hub.specs.Answers.{row, told, option-values}
 use Rattle.hub.specs.Entries.{entry-told}
 use Rattle.hub.specs.Options.{option-fields, read-option-told}
+use Rattle.hub.specs.Payload.{settings-of, nowhere, places-told}
 
 -- where option k starts in the options part: behind the layouts of those before it
 abbrev pub start : List Opt → ℕ → ℕ
@@ -47,3 +52,35 @@ pub record HandedToC (es : List Entry) (os : List Opt) (tab : List ℕ) : Type 0
   -- viaductle_read_option where option k starts gives its own fields
   pub fields : (k : ℕ) (o : Opt) → counted os k ≡ accepted o → (r : Option) → r ≡ read-option-told (drop (start os k) (lay-options os))
       → r ≡ option-fields (length (lay-option o)) o
+
+-- ---- the payload
+
+-- two parts of `s` where they are told to be: its entries and its options, laid out
+pub record PartsOf (q : Payload) (s : List ℕ) (p : Places) : Type 0 where
+  pub entries : take (p .«entries_len») (drop (p .«entries_at») s) ≡ lay-entries (q .entries)
+  pub entries-inside : p .«entries_at» + p .«entries_len» ≤ length s
+  pub options : take (p .«options_len») (drop (p .«options_at») s) ≡ lay-options (q .options)
+  pub options-inside : p .«options_at» + p .«options_len» ≤ length s
+
+-- what C is told after the payload `s`, which `q` lays out, was read with the answer `r` and left the table `tab`
+pub record ToldToC (q : Payload) (s tab : List ℕ) (r : Answer) : Type 0 where
+  -- the three flags as byte 0 has them, how many entries, and how many options
+  pub answer : r ≡ row 0 ((getD s 0 0 / 32 * 32) ∷ length (q .entries) ∷ length (q .options) ∷ [])
+  pub parts : (p : Places) → p ≡ places-told (r .number) s → PartsOf q s p
+  pub handed : HandedToC (q .entries) (q .options) tab
+
+-- the payload `s` was read under the settings' word `word` with the answer `r` and left the table `tab`
+pub record OfTheHub (word : ℕ) (s tab : List ℕ) (r : Answer) : Type 0 where
+  -- unknown options are discarded exactly where the word's lowest bit is set
+  pub discards : (settings-of word .discard ≡ true) ↔ (word % 2 ≡ 1)
+  -- 0 is answered exactly where entries and options, laid out by the rules, give those very bytes
+  pub exactly : (r .number ≡ 0) ↔ ((q : Payload) × LaidOut (settings-of word) s q)
+  -- and then all that C is told is what was laid out
+  pub after : (q : Payload) → LaidOut (settings-of word) s q → ToldToC q s tab r
+  -- after a refusal the parts are empty
+  pub empty-parts : (r .number ≡ 0 → ⊥) → (p : Places) → p ≡ places-told (r .number) s → p ≡ nowhere
+
+-- the message `m` was read so: the same of what stands behind its header
+pub record OfTheMessage (word : ℕ) (m tab : List ℕ) (r : Answer) : Type 0 where
+  pub exactly : (r .number ≡ 0) ↔ ((q : Payload) × MessageLaidOut (settings-of word) m q)
+  pub after : r .number ≡ 0 → OfTheHub word (drop 16 m) tab r

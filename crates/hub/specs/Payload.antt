@@ -10,10 +10,11 @@ use Rattle.numbers.specs.Answers as paper
 use Rattle.sd_format.specs.Settings.{Settings}
 use Rattle.sd_format.specs.Options.{has}
 use Rattle.sd_format.specs.Frames.{lent, table-after}
-use Rattle.sd_format.specs.Layout.{Flags}
 use Rattle.sd_format.specs.Payload.{Reading, frames-of, entries-length, entries-part, options-part}
-use Rattle.sd_payload.specs.Sized.{sized-entries}
-use Rattle.sd_payload.specs.Reads.{Summary, summed}
+use Rattle.sd_payload.specs.declared.reading.SdHeaderFlags.{SdHeaderFlags}
+use Rattle.sd_payload.specs.declared.reading.SdPayload.{SdPayload}
+use Rattle.sd_payload.specs.Sized.{sized}
+use Rattle.sd_payload.specs.Reads.{summed}
 use Rattle.hub.specs.declared.answers.Answer.{Answer}
 use Rattle.hub.specs.declared.payload.Places.{Places}
 use Rattle.hub.specs.Answers.{told}
@@ -23,17 +24,19 @@ abbrev pub settings-of : ℕ → Settings
 settings-of word = record { discard = has word 0x1 }
 
 -- the three flags where byte 0 has them
-abbrev pub flag-bits : Flags → ℕ
-flag-bits f = cond (f .reboot) 0x80 0 + cond (f .unicast) 0x40 0 + cond (f .initial-data-control) 0x20 0
+abbrev pub flag-bits : SdHeaderFlags → ℕ
+flag-bits f = cond (f .reboot) 0x80 0 + cond (f .unicast) 0x40 0 + cond (f .«explicit_initial_data_control») 0x20 0
 
 -- the flags, how many entries, and how many options
-abbrev pub summary-values : Summary → List ℕ
-summary-values s = flag-bits (s .flags) ∷ s .entries ∷ s .options ∷ []
+abbrev pub summary-values : SdPayload → List ℕ
+summary-values p = flag-bits (p .flags) ∷ p .entries ∷ p .options ∷ []
 
 -- what was read, and the lent table before and after
 pub record Reads (a : paper.Answer Reading) (tab : List ℕ) (r : Answer) (tab′ : List ℕ) : Type 0 where
   pub answers : r ≡ told summary-values (given summed (lent tab a))
   pub slots : tab′ ≡ table-after tab (frames-of a)
+  -- 0 is answered for what is accepted alone
+  pub zero : r .number ≡ 0 → (rd : Reading) × (lent tab a ≡ paper.accepted rd)
 
 -- ---- the parts
 
@@ -57,4 +60,4 @@ placed s (paper.refused r) = nowhere
 
 -- the parts of `s` after an answer of this number: a refusal hands back empty parts
 abbrev pub places-told : (number : ℕ) → List ℕ → Places
-places-told number s = cond (eqb number 0) (placed s (sized-entries s)) nowhere
+places-told number s = cond (eqb number 0) (placed s (sized s)) nowhere

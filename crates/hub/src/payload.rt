@@ -5,8 +5,11 @@ use crate::answers::refused;
 use refusal::Count;
 use refusal::three;
 use sd_option::Settings;
+use sd_payload::EXPLICIT_INITIAL_DATA_CONTROL;
 use sd_payload::PayloadAnswer;
+use sd_payload::REBOOT;
 use sd_payload::SdHeaderFlags;
+use sd_payload::UNICAST;
 use sd_payload::judge_sizes;
 use sd_payload::read_message;
 use sd_payload::read_payload;
@@ -15,19 +18,12 @@ ghost use mathlib.Core.Bool.{cond};
 ghost use Prim.Native.Nat.{_≤_};
 ghost use Rattle.sd_format.specs.Payload.{read-payload, read-message};
 ghost use Rattle.sd_option.specs.Settings.{settings-said};
-ghost use Rattle.sd_payload.specs.Reads.{flags-said, payload-said};
+ghost use Rattle.sd_payload.specs.Reads.{payload-said};
 ghost use Rattle.hub.specs.Answers.{told};
 ghost use Rattle.hub.specs.Payload.{settings-of, flag-bits, summary-values, nowhere, places-told, Reads};
 
 // The bit of the settings' word: unknown options are accepted although they may not be discarded.
 pub const DISCARD: u32 = 0x1;
-
-// The flags of byte 0.
-pub const REBOOT: u64 = 0x80;
-
-pub const UNICAST: u64 = 0x40;
-
-pub const INITIAL_DATA_CONTROL: u64 = 0x20;
 
 // The settings that a word's bits tell; bits without a name are ignored.
 fn settings_of(word: u32) -> Settings
@@ -39,19 +35,22 @@ fn settings_of(word: u32) -> Settings
 }
 
 // A flag's bit where it is set.
-fn flag(set: bool, value: u64) -> u64
+fn flag(set: bool, value: u8) -> u64
     ensures { λ r. ⌜ (r ≡ cond set value 0) × (r ≤ value) ⌝ }
 {
-    if set { value } else { 0 }
+    if set { value as u64 } else { 0 }
 }
 
 // The three flags where byte 0 has them.
 fn flag_bits(flags: SdHeaderFlags) -> u64
-    ensures { λ r. ⌜ r ≡ flag-bits (flags-said flags) ⌝ }
+    ensures { λ r. ⌜ r ≡ flag-bits flags ⌝ }
 {
     flag(flags.reboot, REBOOT)
         + flag(flags.unicast, UNICAST)
-        + flag(flags.explicit_initial_data_control, INITIAL_DATA_CONTROL)
+        + flag(
+            flags.explicit_initial_data_control,
+            EXPLICIT_INITIAL_DATA_CONTROL,
+        )
 }
 
 // The answer of a reading: the flags, how many entries, and how many options.

@@ -1,11 +1,11 @@
 // What is told of a payload: the answer, and its first entry with the first option of that entry's run 1.
 use crate::parts::entry;
 use crate::parts::found;
+use hub::answers::Answer;
+use hub::payload::viaductle_read;
 use print::number;
 use print::refused;
 use print::text;
-use hub::answers::Answer;
-use hub::payload::viaductle_read;
 use refusal::Numbers;
 use refusal::numbers_of;
 use refusal::three;
@@ -56,7 +56,9 @@ fn bit(set: bool, value: u8) -> u8
 // What an accepted payload has, as numbers: the flags where byte 0 has them, entries, options.
 fn counted(p: SdPayload) -> Numbers {
     let f = p.flags;
-    let bits = bit(f.reboot, 0x80) + bit(f.unicast, 0x40) + bit(f.explicit_initial_data_control, 0x20);
+    let bits = bit(f.reboot, 0x80)
+        + bit(f.unicast, 0x40)
+        + bit(f.explicit_initial_data_control, 0x20);
     three(0, bits as u64, p.entries as u64, p.options as u64)
 }
 

@@ -64,7 +64,7 @@ opening-again o b n =
     let four : tab 4 (λ i. getD o i 0) ≡ o = sym (take-tab 4 o (omega arith)) ∙ take-all 4 o (omega arith) in
     rw (byte-again (getD o 0 0) (b 0), be24-at o 1 b, be16-at o 2 b) four
 
-length-opening : (f : Flags) (spare reserved : ℕ) → length (lay-opening f spare reserved) ≡ 4
+pub length-opening : (f : Flags) (spare reserved : ℕ) → length (lay-opening f spare reserved) ≡ 4
 unfolding lay-opening be24 be16
 length-opening f spare reserved = refl
 
@@ -123,7 +123,7 @@ module _ (F E O : List ℕ) (four : length F ≡ 4) where
   unfolding be32 be16
   length-word n = refl
 
-  part-opening : take 4 L ≡ F
+  pub part-opening : take 4 L ≡ F
   part-opening = take-at F _ 4 four
 
   part-four : drop 4 L ≡ be32 (length E) ++ (E ++ sized O)
@@ -142,23 +142,23 @@ module _ (F E O : List ℕ) (four : length F ≡ 4) where
       let e : 12 + length E ≡ 8 + length E + 4 = omega arith in
       rw e (sym (drop-drop 4 (8 + length E) L) ∙ rw (part-after, drop-word))
 
-  part-entries-length : entries-length L ≡ length E
+  pub part-entries-length : entries-length L ≡ length E
   unfolding entries-length
   part-entries-length = sym (at32-drop L 4) ∙ rw part-four (at32-be (length E) (E ++ sized O))
 
-  part-options-length : options-length L ≡ length O
+  pub part-options-length : options-length L ≡ length O
   unfolding options-length sized
   part-options-length = rw part-entries-length (sym (at32-drop L (8 + length E)) ∙ rw part-after (at32-be (length O) O))
 
-  part-entries : entries-part L ≡ E
+  pub part-entries : entries-part L ≡ E
   unfolding entries-part
   part-entries = rw (part-entries-length, part-eight, take-append-seam)
 
-  part-options : options-part L ≡ O
+  pub part-options : options-part L ≡ O
   unfolding options-part
   part-options = rw part-entries-length part-last
 
-  part-length : length L ≡ 12 + length E + length O
+  pub part-length : length L ≡ 12 + length E + length O
   unfolding sized
   part-length = simp (length-append, length-word) (omega arith)
 
@@ -225,7 +225,7 @@ length-entries (e ∷ es) = rw (length-append, length-entry, length-entries es) 
 
 module _ (g : Settings) where
   -- what is laid out is read
-  lay-read : (p : Payload) → Fits g p
+  pub lay-read : (p : Payload) → Fits g p
       → read-payload g (lay p) ≡ accepted (record { opening = lay-opening (p .flags) (p .spare) (p .reserved); entries = p .entries; frames = map wire (p .options) })
   unfolding read-payload lay-parts
   lay-read p h =

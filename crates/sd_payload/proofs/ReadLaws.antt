@@ -16,7 +16,8 @@ use Rattle.sd_format.specs.Frames.{Frame, size, read-options, slots, zeros, len
 use Rattle.sd_format.specs.Entries.{read-entries}
 use Rattle.sd_format.specs.Payload.{entries-part, options-part, Reading, read-payload, flags}
 use Rattle.sd_format.proofs.SequenceLaws.{length-starts}
-use Rattle.sd_format.proofs.OptionLaws.{length-zeros, read-parts, few-options}
+use Rattle.sd_format.proofs.TableLaws.{length-zeros}
+use Rattle.sd_format.proofs.OptionLaws.{read-parts, few-options}
 use Rattle.sd_format.proofs.CallLaws.{lent-exactly}
 use Rattle.refusal.specs.declared.Refusal.{Refusal}
 use Rattle.refusal.specs.declared.Refusal.the-variants.{FewSlots}

@@ -8,9 +8,12 @@ mod sizes;
 
 pub use parts::entries_part;
 pub use parts::options_part;
+pub use reading::EXPLICIT_INITIAL_DATA_CONTROL;
 pub use reading::PayloadAnswer;
+pub use reading::REBOOT;
 pub use reading::SdHeaderFlags;
 pub use reading::SdPayload;
+pub use reading::UNICAST;
 pub use reading::read_message;
 pub use reading::read_payload;
 pub use sizes::judge_sizes;

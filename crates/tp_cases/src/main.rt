@@ -2,13 +2,13 @@
 // line: what came, the answer to it, and at the end the report. The file stdout holds what the rules say; where an exported function told
 // something else, the line says so.
 use big_endian::be32;
-use print::number;
-use print::refused;
-use print::text;
 use hub::answers::Answer;
 use hub::tp::viaductle_begin;
 use hub::tp::viaductle_consume;
 use hub::tp::viaductle_take;
+use print::number;
+use print::refused;
+use print::text;
 use refusal::Count;
 use refusal::Numbers;
 use refusal::Verdict;

@@ -1,21 +1,25 @@
 -- `payload::viaductle_read_message` meets its contract. Assumes nothing.
+use mathlib.Core.Path.{ap}
+use Rattle.sd_format.specs.Settings.{Settings}
+use Rattle.sd_format.specs.Payload.{read-message}
+use Rattle.hub.proofs.ToldLaws.{reads-as}
 use borrow.Author.Needs.{needs}
-use Rattle.hub.proofs.ToldLaws.{reads}
 use Rattle.hub.proofs.payload.viaductle_read_message.Statement.{statement}
 use Rattle.hub.proofs.payload.viaductle_read_message.Tie as tie
 
-read-message-requires : tie.Need-read-message-requires
-read-message-requires c κs = search needs
-
-payload-answer-requires : tie.Need-payload-answer-requires
-payload-answer-requires c κs = search needs
-
-same-length : tie.Need-same-length
-same-length c = search needs
-
 returns : tie.Need-returns
-returns c = reads _ _ _ _ _ (c .before .before .before .read-message .ensures) (c .payload-answer .ensures)
+returns c =
+    let at-read = c .before .before .before in
+    let at-settings = at-read .before .before in
+    reads-as (ap (λ (g : Settings). read-message g (at-settings .before .before .before .args .message .now)) (at-settings .settings-of .ensures)) _ _ _ _ (at-read .read-message .ensures)
+    (c .payload-answer .ensures)
 
 pub viaductle-read-message-spec : {M : Type 1} → statement M
 viaductle-read-message-spec =
-    tie.close (tie.spec read-message-requires payload-answer-requires same-length returns)
+    tie.close
+    (tie.spec
+    (λ c κs. search needs)
+    (λ c κs. search needs)
+    (λ c κs. search needs)
+    (λ c. search needs)
+    returns)
