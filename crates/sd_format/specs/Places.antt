@@ -9,7 +9,7 @@ use Rattle.numbers.specs.Answers.{Answer, accepted, given}
 use Rattle.sd_format.specs.Options.{Family, ipv4, ipv6, Role, endpoint, multicast, sd-endpoint, First, Opt, configuring, balancing, addressed, unrecognised}
 use Rattle.sd_format.specs.Frames.{read-option}
 use Rattle.sd_format.specs.Fields.{fields}
-use Rattle.sd_format.specs.Entries.{Head, Group, find, offer, subscribe, subscribe-ack, read-entry}
+use Rattle.sd_format.specs.Entries.{Head, Group, find, offer, subscribe, subscribe-ack, group, read-entry}
 use Rattle.sd_format.specs.Layout.{Flags}
 use Rattle.sd_format.specs.Payload.{handed-out}
 use Rattle.sd_format.specs.Order.{strict}
@@ -33,6 +33,13 @@ its-head = record { start1 = 1; start2 = 2; count1 = 3; count2 = 4; service = 0x
 
 abbrev pub its-group : Group
 its-group = record { reserved = 0x0d; initial-data = true; spare = 1; counter = 14; eventgroup = 0x0f10 }
+
+-- the eventgroup fields of an entry whose byte 13 is this and whose other bytes are 0
+abbrev pub group-of : ℕ → Group
+group-of byte = group (replicate 13 0 ++ (byte ∷ 0 ∷ 0 ∷ []))
+
+abbrev pub grouped : (initial-data : Bool) (spare counter : ℕ) → Group
+grouped initial-data spare counter = record { reserved = 0; initial-data = initial-data; spare = spare; counter = counter; eventgroup = 0 }
 
 -- ---- an option by its kind's own fields
 
@@ -72,6 +79,9 @@ pub record Places : Type 0 where
   pub 0x01-offers : read-entry (entry 0x01) ≡ accepted (offer its-head 0x0d9e0f10)
   pub 0x06-subscribes : read-entry (entry 0x06) ≡ accepted (subscribe its-head its-group)
   pub 0x07-acknowledges : read-entry (entry 0x07) ≡ accepted (subscribe-ack its-head its-group)
+  pub initial-data : group-of 0x80 ≡ grouped true 0 0
+  pub spare : group-of 0x70 ≡ grouped false 7 0
+  pub counter : group-of 0x0f ≡ grouped false 0 15
   -- options
   pub 0x01-configures : option (0x00 ∷ 0x05 ∷ 0x01 ∷ 0x85 ∷ 0x02 ∷ 0x41 ∷ 0x42 ∷ 0x00 ∷ []) ≡ accepted (configuring may-go ((0x41 ∷ 0x42 ∷ []) ∷ []))
   pub 0x02-balances : option (0x00 ∷ 0x05 ∷ 0x02 ∷ 0x85 ∷ 0x01 ∷ 0x02 ∷ 0x03 ∷ 0x04 ∷ []) ≡ accepted (balancing may-go 0x0102 0x0304)

@@ -12,6 +12,14 @@ pub bounds : Bounds
 unfolding be16 be32 at16 at32 refuse_when_else_ given tp-type is-segment offset more payload without-tp header pasted written any touch hull-of keep grow joined some-touch bad-range bad-state judged after step begun begin fed complete ready taking
 bounds = record {
   cases = (refl, (refl, (refl, (refl, (refl, (refl, (refl, tt)))))));
+  segment-lines = record {
+    types = (refl, (refl, (refl, (refl, (refl, tt)))));
+    other-types = (refl, (refl, (refl, (refl, (refl, tt)))));
+    other-lengths = (refl, (refl, tt));
+    other-versions = (refl, (refl, tt));
+    nineteen-bytes = (refl, tt);
+  };
+  ends-known = (refl, (refl, (refl, (refl, tt))));
   holding = record { filled = refl; full = refl; joins-two = refl };
   malformed = record {
     thirty-two = refl;

@@ -1,16 +1,18 @@
--- Computed beside the marked case: document 01's unmarked cases of joining, and both sides of the lines that its cases leave open: how many ranges
--- are held, the highest limit, the buffer's length, each rule of 38, and which bytes a segment writes. The marked case is in specs/Cases.antt.
--- Assumes nothing: these are definitions.
+-- Computed beside the marked case: document 01's unmarked cases of joining, and both sides of the lines that its cases leave open: what is a
+-- segment, another end, how many ranges are held, the highest limit, the buffer's length, each rule of 38, and which bytes a segment writes. The
+-- marked case is in specs/Cases.antt. Assumes nothing: these are definitions.
 use Prim.Native.Nat.{ℕ, zero, suc, _+_, _*_}
 use mathlib.Core.Path.{_≡_}
-use mathlib.Core.Bool.{true, false}
+use mathlib.Core.Bool.{Bool, true, false}
 use mathlib.Core.List.{List, [], _∷_, _++_}
 use lib.ListN.{length, take, drop, replicate}
+use Rattle.numbers.specs.Bytes.{be32}
 use Rattle.numbers.specs.Refusals.{refusal}
-use Rattle.numbers.specs.Answers.{accepted, refused, pass}
+use Rattle.numbers.specs.Answers.{accepted, refused, pass, All}
 use Rattle.tp_machine.specs.declared.TpRange.{TpRange}
 use Rattle.tp_machine.specs.declared.TpEnd.{TpEnd}
 use Rattle.tp_machine.specs.declared.TpEnd.the-variants.{Unknown, Known}
+use Rattle.tp_machine.specs.Segments.{is-segment}
 use Rattle.tp_machine.specs.Machine.{State, fresh, Out, bad-state, step, begun, begin, opened, fed}
 use Rattle.tp_machine.specs.Taking.{complete, taking}
 use Rattle.tp_machine.specs.Meaning.{range}
@@ -27,6 +29,32 @@ unmarked =
     ∷ case 64 (0 final-at 0 ∷ []) pass true 8
     ∷ case 32 (0 final-at 32 ∷ []) pass false 0
     ∷ case 32 (0 final-at 48 ∷ []) (refused (refusal 31 (48 ∷ 0 ∷ 32 ∷ []))) false 0
+    ∷ []
+
+-- ---- 30: both sides of each of its lines
+
+-- 20 bytes with this length field, protocol version and type
+abbrev pub twenty : (len version type : ℕ) → List ℕ
+twenty len version type = (0x12 ∷ 0x34 ∷ 0x80 ∷ 0x01 ∷ []) ++ (be32 len ++ (0 ∷ 0 ∷ 0 ∷ 1 ∷ version ∷ 1 ∷ type ∷ 0 ∷ 0 ∷ 0 ∷ 0 ∷ 0 ∷ []))
+
+abbrev pub AreSegments : Bool → List (List ℕ) → Type 0
+AreSegments t = All (λ s. is-segment s ≡ t)
+
+pub record SegmentLines : Type 0 where
+  pub types : AreSegments true (twenty 12 1 0x20 ∷ twenty 12 1 0x21 ∷ twenty 12 1 0x22 ∷ twenty 12 1 0xa0 ∷ twenty 12 1 0xa1 ∷ [])
+  pub other-types : AreSegments false (twenty 12 1 0x00 ∷ twenty 12 1 0x1f ∷ twenty 12 1 0x23 ∷ twenty 12 1 0x9f ∷ twenty 12 1 0xa2 ∷ [])
+  pub other-lengths : AreSegments false (twenty 11 1 0x22 ∷ twenty 13 1 0x22 ∷ [])
+  pub other-versions : AreSegments false (twenty 12 0 0x22 ∷ twenty 12 2 0x22 ∷ [])
+  pub nineteen-bytes : AreSegments false (take 19 (twenty 11 1 0x22) ∷ [])
+
+-- ---- 33: an end of 32 is known, and a final segment has another end or the same, or one that is not final lies before it
+
+abbrev pub ends : List Case
+ends =
+    case 64 (16 final-at 16 ∷ 16 final-at 0 ∷ []) (refused (refusal 33 (32 ∷ 16 ∷ []))) false 0
+    ∷ case 64 (16 final-at 16 ∷ 16 final-at 16 ∷ []) pass false 0
+    ∷ case 64 (16 final-at 16 ∷ 16 more-at 0 ∷ []) pass true 40
+    ∷ case 64 (16 final-at 16 ∷ 16 more-at 16 ∷ []) pass false 0
     ∷ []
 
 -- ---- how many ranges are held
@@ -70,6 +98,8 @@ pub record Malformed : Type 0 where
 
 pub record Bounds : Type 0 where
   pub cases : Hold unmarked
+  pub segment-lines : SegmentLines
+  pub ends-known : Hold ends
   pub holding : Holding 32
   pub malformed : Malformed
   -- the highest limit, and one more
