@@ -4,13 +4,12 @@ use Prim.Native.Nat.{ℕ, _+_, _%_}
 use mathlib.Core.Bool.{Bool}
 use mathlib.Core.List.{List, []}
 use lib.ListN.{take, drop, getD}
-use Rattle.numbers.specs.Refusals.{nothing-there}
-use Rattle.numbers.specs.Answers.{Answer, accepted, refused, _>>=_}
+use Rattle.numbers.specs.Answers.{Answer, accepted, refused}
 use Rattle.numbers.specs.Bytes.{at16}
 use Rattle.sd_format.specs.Options.{Family, ipv4, ipv6, First, Opt, configuring, balancing, addressed, unrecognised, discardable-bit, has}
 use Rattle.sd_format.specs.Strings.{read-string}
-use Rattle.sd_format.specs.Kinds.{Kind, configuration, load-balancing, address, unknown, kind-of, unscanned}
-use Rattle.sd_format.specs.Frames.{Frame, one-option}
+use Rattle.sd_format.specs.Kinds.{Kind, configuration, load-balancing, address, unknown, kind-of}
+use Rattle.sd_format.specs.Frames.{Frame}
 
 -- ---- where the fields stand
 
@@ -64,28 +63,3 @@ fields-of unknown type body = unrecognised type (first body) (string body)
 
 unfoldable pub fields : Frame → Opt
 fields f = fields-of (kind-of (f .type)) (f .type) (f .body)
-
--- ---- one field asked of the option in front of some bytes: a refusal of its reading, or 20 where its kind has no such field
--- (The string is not scanned.)
-
-unfoldable pub asked : {A : Type 0} → (Kind → List ℕ → Answer A) → List ℕ → Answer A
-asked field s = one-option unscanned s >>= λ f. field (kind-of (f .type)) (f .body)
-
--- a field that only options with an address have
-unfoldable pub of-address : {A : Type 0} → (Family → List ℕ → A) → Kind → List ℕ → Answer A
-of-address field (address family role) body = accepted (field family body)
-of-address field configuration body = refused nothing-there
-of-address field load-balancing body = refused nothing-there
-of-address field unknown body = refused nothing-there
-
-unfoldable pub of-load-balancing : {A : Type 0} → (List ℕ → A) → Kind → List ℕ → Answer A
-of-load-balancing field load-balancing body = accepted (field body)
-of-load-balancing field configuration body = refused nothing-there
-of-load-balancing field (address family role) body = refused nothing-there
-of-load-balancing field unknown body = refused nothing-there
-
-unfoldable pub of-configuration : {A : Type 0} → (List ℕ → A) → Kind → List ℕ → Answer A
-of-configuration field configuration body = accepted (field body)
-of-configuration field load-balancing body = refused nothing-there
-of-configuration field (address family role) body = refused nothing-there
-of-configuration field unknown body = refused nothing-there

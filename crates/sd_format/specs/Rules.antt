@@ -86,7 +86,7 @@ option-rules Text s =
     part (λ r. (getD s 2 0 ≡ 0x01) × Text (drop 1 (take (at16 s 0) (drop 3 s))) r) else
     accept
 
--- the reading judges the string, lookup and single fields do not
+-- the reading judges the string, lookup does not
 abbrev pub Scanned : List ℕ → Refusal → Type 0
 Scanned = StringRefused 0
 
