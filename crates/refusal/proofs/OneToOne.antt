@@ -18,7 +18,7 @@ use Rattle.refusal.specs.declared.answers.Verdict.{Verdict}
 use Rattle.refusal.specs.declared.answers.Verdict.the-variants as verdict
 use Rattle.refusal.specs.declared.answers.Count.{Count}
 use Rattle.refusal.specs.declared.answers.Count.the-variants as count
-use Rattle.refusal.specs.Said.{said, string-said, verdict-said, count-said, verdict-refusal, count-refusal}
+use Rattle.refusal.specs.Said.{said, string-said, verdict-said, count-said}
 
 -- ---- back from a number and its values, `v`; anything for what is never said
 
@@ -126,9 +126,6 @@ back (code.LimitTooLarge a) = refl
 back code.NotComplete = refl
 back code.MalformedState = refl
 
-pub string-one-to-one : (x y : StringError) → string-said x ≡ string-said y → x ≡ y
-string-one-to-one x y same = sym (string-back x) ∙ ap (λ (r : paper.Refusal). string-of (value r)) same ∙ string-back y
-
 pub one-to-one : (x y : Refusal) → said x ≡ said y → x ≡ y
 one-to-one x y same = sym (back x) ∙ ap (λ (r : paper.Refusal). refusal-of (r .number) (value r)) same ∙ back y
 
@@ -149,13 +146,3 @@ count-one-to-one (count.Good n) (count.Good m) same = ap count.Good (accepted-in
 count-one-to-one (count.Good n) (count.Refused r) same = not-refused (said r) n (sym same)
 count-one-to-one (count.Refused r) (count.Good n) same = not-refused (said r) n same
 count-one-to-one (count.Refused r) (count.Refused q) same = ap count.Refused (same-refusal r q same)
-
--- ---- what the `else` of a `let .. else` returns: the refusal of the answer that was no other
-
-pub else-verdict : (v : Verdict) (r : paper.Refusal) → verdict-said v ≡ refused r → said (verdict-refusal v) ≡ r
-else-verdict verdict.Passed r e = not-refused r tt (sym e)
-else-verdict (verdict.Refused q) r e = refused-inj {A = Unit {0}} (said q) r e
-
-pub else-count : (c : Count) (r : paper.Refusal) → count-said c ≡ refused r → said (count-refusal c) ≡ r
-else-count (count.Good n) r e = not-refused r n (sym e)
-else-count (count.Refused q) r e = refused-inj {A = ℕ} (said q) r e
