@@ -40,8 +40,10 @@ pub(crate) fn sum_of_options(options: &[u8]) -> u32 {
 
 // Where a cursor goes on behind an option; nowhere that bytes are where that is no place.
 fn behind(at: u64, size: u64) -> usize {
-    if at < 0x10000 && size < 0x20000 {
-        return (at + size) as usize;
+    if at < 0x10000 {
+        if size < 0x20000 {
+            return (at + size) as usize;
+        }
     }
     0x40000
 }

@@ -13,32 +13,11 @@ Inv-loop fd total record₀ table₀ counts₀ first₀ i₀ «record» table co
 abbrev μ-loop : tie.MeasureT-loop
 μ-loop fd total record₀ table₀ counts₀ first₀ i₀ «record» table counts first i = total - i
 
-loop-holds : tie.Need-loop-holds Inv-loop μ-loop
-loop-holds c = search needs
-
 next-agrees-requires : tie.Need-next-agrees-requires Inv-loop μ-loop
 next-agrees-requires c κs = tt
 
-add-i : tie.Need-add-i Inv-loop μ-loop
-add-i c = search needs
-
 earlier-requires : tie.Need-earlier-requires Inv-loop μ-loop
 earlier-requires c κs = tt
-
-loop-less : tie.Need-loop-less Inv-loop μ-loop
-loop-less c = search needs
-
-loop-again : tie.Need-loop-again Inv-loop μ-loop
-loop-again c = search needs
-
-same-length : tie.Need-same-length Inv-loop μ-loop
-same-length c = search needs
-
-same-length-2 : tie.Need-same-length-2 Inv-loop μ-loop
-same-length-2 c = search needs
-
-same-length-3 : tie.Need-same-length-3 Inv-loop μ-loop
-same-length-3 c = search needs
 
 returns : tie.Need-returns Inv-loop μ-loop
 returns c = tt
@@ -49,13 +28,13 @@ replay-all-spec =
     (tie.spec
     Inv-loop
     μ-loop
-    loop-holds
+    (λ c. search needs)
     next-agrees-requires
-    add-i
+    (λ c. search needs)
     earlier-requires
-    loop-less
-    loop-again
-    same-length
-    same-length-2
-    same-length-3
+    (λ c. search needs)
+    (λ c. search needs)
+    (λ c. search needs)
+    (λ c. search needs)
+    (λ c. search needs)
     returns)

@@ -1,50 +1,14 @@
--- `sd_replay::options::sum_of_options` is safe and ends.
--- Assumes nothing.
+-- `sd_replay::options::sum_of_options` is safe and ends. Assumes nothing.
+use Prim.Native.Nat.{_-_, _≤_}
 use borrow.Author.Needs.{needs}
 use Rattle.sd_replay.proofs.options.sum_of_options.Statement.{statement}
 use Rattle.sd_replay.proofs.options.sum_of_options.Tie as tie
 
 abbrev Inv-loop : tie.InvT-loop
-Inv-loop options sum₀ cursor₀ left₀ sum cursor left = Unit {0}
+Inv-loop options sum₀ at₀ turns₀ sum at turns = turns ≤ 400
 
 abbrev μ-loop : tie.MeasureT-loop
-μ-loop options sum₀ cursor₀ left₀ sum cursor left = left
-
-new-requires : tie.Need-new-requires Inv-loop μ-loop
-new-requires c κs = tt
-
-loop-holds : tie.Need-loop-holds Inv-loop μ-loop
-loop-holds c = tt
-
-sub-left : tie.Need-sub-left Inv-loop μ-loop
-sub-left c = search needs
-
-next-requires : tie.Need-next-requires Inv-loop μ-loop
-next-requires c κs = tt
-
-step-numbers-requires : tie.Need-step-numbers-requires Inv-loop μ-loop
-step-numbers-requires c κs = tt
-
-add-answer-requires : tie.Need-add-answer-requires Inv-loop μ-loop
-add-answer-requires c κs = tt
-
-enum-told : tie.Need-enum-told Inv-loop μ-loop
-enum-told c = search needs
-
-loop-less : tie.Need-loop-less Inv-loop μ-loop
-loop-less c = search needs
-
-loop-again : tie.Need-loop-again Inv-loop μ-loop
-loop-again c = tt
-
-enum-told-2 : tie.Need-enum-told-2 Inv-loop μ-loop
-enum-told-2 c = search needs
-
-returns : tie.Need-returns Inv-loop μ-loop
-returns c = tt
-
-returns-2 : tie.Need-returns-2 Inv-loop μ-loop
-returns-2 c = tt
+μ-loop options sum₀ at₀ turns₀ sum at turns = 400 - turns
 
 pub sum-of-options-spec : {M : Type 1} → statement M
 sum-of-options-spec =
@@ -52,15 +16,14 @@ sum-of-options-spec =
     (tie.spec
     Inv-loop
     μ-loop
-    new-requires
-    loop-holds
-    sub-left
-    next-requires
-    step-numbers-requires
-    add-answer-requires
-    enum-told
-    loop-less
-    loop-again
-    enum-told-2
-    returns
-    returns-2)
+    (λ c. search needs)
+    (λ c κs. search needs)
+    (λ c κs. search needs)
+    (λ c. search needs)
+    (λ c. search needs)
+    (λ c. search needs)
+    (λ c κs. search needs)
+    (λ c. search needs)
+    (λ c. search needs)
+    (λ c. search needs)
+    (λ c. search needs))
