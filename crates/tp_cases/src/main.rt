@@ -14,7 +14,6 @@ use refusal::Numbers;
 use refusal::Verdict;
 use refusal::none;
 use refusal::numbers_of;
-use refusal::one;
 use tp_stream::TpStream;
 use tp_words::WORDS;
 ghost use mathlib.Core.Path.{_≡_};
@@ -126,7 +125,7 @@ fn taken(s: TpStream, buf: &mut [u8], words: &[u32], other: &mut [u8]) {
             number(report.len());
             text(b" bytes with length field ");
             number(length_field(report) as usize);
-            exported(one(0, report.len() as u64), told);
+            exported(refusal::one(0, report.len() as u64), told);
         }
         Count::Refused(refusal) => {
             text(b"taking: ");
