@@ -3,16 +3,17 @@ use print::named_code;
 use print::number;
 use print::refused;
 use print::text;
+use refusal::numbers_of;
 use sd_entry::EntryAnswer;
 use sd_entry::EntryHead;
 use sd_entry::SdEntry;
 use sd_entry::SdServiceEntryType;
-use sd_field::ByteAnswer;
-use sd_field::WordAnswer;
+use sd_field::FieldsAnswer;
+use sd_field::IpAddress;
+use sd_field::SdOption;
+use sd_field::read_fields;
 use sd_index::FoundAnswer;
 use sd_index::RunCursor;
-use sd_option::kinds::OptionKind;
-use sd_option::kinds::kind_of;
 
 // The head of an entry.
 fn head(h: EntryHead) {
@@ -67,59 +68,61 @@ pub(crate) fn entry(entries: &[u8]) -> RunCursor {
             RunCursor::new(h.start_index_options_1, h.number_of_options_1)
         }
         EntryAnswer::Refused(refusal) => {
-            refused(refusal::numbers_of(refusal));
+            refused(numbers_of(refusal));
             text(b"\n");
             RunCursor::new(0, 0)
         }
     }
 }
 
-// The kind of an option.
-fn kind(k: OptionKind) {
-    match k {
-        OptionKind::Ipv4Endpoint => text(b"IPv4 endpoint "),
-        _ => text(b"another kind "),
-    }
+// The low byte of a number.
+fn byte(n: u32) {
+    number((n % 256) as usize);
 }
 
-// A byte in decimal.
-fn byte(b: u8) {
-    number(b as usize);
-}
-
-// Four bytes of an address.
-fn address(bytes: &[u8]) {
-    if bytes.len() == 4 {
-        byte(bytes[0]);
-        text(b".");
-        byte(bytes[1]);
-        text(b".");
-        byte(bytes[2]);
-        text(b".");
-        byte(bytes[3]);
+// An address of four bytes, dotted.
+fn address(a: IpAddress) {
+    match a {
+        IpAddress::V4(n) => {
+            text(b"IPv4 endpoint ");
+            byte(n / 16777216);
+            text(b".");
+            byte(n / 65536);
+            text(b".");
+            byte(n / 256);
+            text(b".");
+            byte(n);
+        }
+        IpAddress::V6(_, _, _, _) => text(b"IPv6 endpoint"),
     }
 }
 
 // A transport protocol.
-fn protocol(answer: ByteAnswer) {
-    match answer {
-        ByteAnswer::Good(p) => match p {
-            0x06 => text(b", TCP"),
-            0x11 => text(b", UDP"),
-            _ => text(b", another protocol"),
-        },
-        ByteAnswer::Refused(_) => text(b", no protocol"),
+fn protocol(p: u8) {
+    match p {
+        0x06 => text(b", TCP"),
+        0x11 => text(b", UDP"),
+        _ => text(b", another protocol"),
     }
 }
 
-// A port.
-fn port(answer: WordAnswer) {
-    match answer {
-        WordAnswer::Good(n) => {
+// An option by its fields.
+fn option(o: SdOption) {
+    match o {
+        SdOption::Address {
+            role: _,
+            first: _,
+            address: a,
+            reserved: _,
+            protocol: p,
+            port: n,
+        } => {
+            address(a);
+            protocol(p);
             text(b", port ");
             number(n as usize);
         }
-        WordAnswer::Refused(_) => text(b", no port"),
+        _ => text(b"another kind"),
     }
 }
 
@@ -129,14 +132,13 @@ pub(crate) fn found(options: &[u8], answer: FoundAnswer) {
     match answer {
         FoundAnswer::Good(f) => {
             let offset = f.offset;
-            let h = f.head;
-            let s = sd_index::option_at(options, offset);
-            kind(kind_of(h.code));
-            address(sd_field::address(s));
-            protocol(sd_field::protocol(s));
-            port(sd_field::port(s));
+            let fields = read_fields(sd_index::option_at(options, offset));
+            match fields {
+                FieldsAnswer::Good { option: o, size: _ } => option(o),
+                FieldsAnswer::Refused(refusal) => refused(numbers_of(refusal)),
+            }
         }
-        FoundAnswer::Refused(refusal) => refused(refusal::numbers_of(refusal)),
+        FoundAnswer::Refused(refusal) => refused(numbers_of(refusal)),
     }
     text(b"\n");
 }
