@@ -3,21 +3,23 @@
 use Prim.Native.Nat.{ℕ, zero, suc}
 use mathlib.Core.Path.{_≡_, refl, sym, ap, _∙_, subst}
 use mathlib.Core.List.{List, [], _∷_, map, map-id}
-use lib.ListN.{take, drop, getD}
+use lib.ListN.{length, take, drop, getD}
 use lib.Seq.{take-at}
 use Rattle.numbers.specs.Refusals as paper
 use Rattle.numbers.specs.Answers.{Answer, accepted, refused, Verdict, given, All}
-use Rattle.numbers.specs.Bytes.{Bytes}
+use Rattle.numbers.specs.Bytes.{Bytes, be16}
 use Rattle.numbers.proofs.AnswerLaws.{when-accepted}
 use Rattle.numbers.proofs.ByteLaws.{bytes-drop}
 use Rattle.sd_format.specs.Settings.{Settings}
 use Rattle.sd_format.specs.Sequences.{next-at, behind, stands, HandsOut, ended, gave}
-use Rattle.sd_format.specs.Options.{Opt}
+use Rattle.sd_format.specs.Options.{First, Opt, configuring, balancing, addressed, unrecognised}
 use Rattle.sd_format.specs.Kinds.{scanned, unscanned}
 use Rattle.sd_format.specs.Frames.{Frame, size, one-option, look-up, next-option, Run, next-of-run, along}
+use Rattle.sd_format.specs.Fields.{discardable}
 use Rattle.sd_format.specs.Entries.{Entry, sixteen, next-entry}
-use Rattle.sd_format.specs.Layout.{OptionFits, wire}
+use Rattle.sd_format.specs.Layout.{lay-option, OptionFits, wire}
 use Rattle.sd_format.proofs.FrameLaws.{lay-frame, length-frame, option-says}
+use Rattle.sd_format.proofs.BitLaws.{first-back}
 use Rattle.sd_format.proofs.FieldLaws.{wired}
 use Rattle.sd_option.specs.Reading.{head-of, option-said}
 use Rattle.sd_entry.specs.declared.cursor.EntryCursor.{EntryCursor}
@@ -31,7 +33,7 @@ use Rattle.sd_index.specs.declared.cursor.RunStep.{RunStep}
 use Rattle.sd_index.specs.Found.{found-said, by-table, look-up-told}
 use Rattle.sd_index.specs.Steps.{OptionStepped, run-said, RunStepped}
 use Rattle.sd_index.proofs.OptionPinned.{slot-reads}
-use Rattle.sd_payload.specs.OfTheCode.{Told, told, told-at, told-found}
+use Rattle.sd_payload.specs.OfTheCode.{Told, first-of, told, told-at, told-found}
 
 -- ---- a cursor of the code, beside one of the definitions that stands at the same place
 
@@ -56,10 +58,24 @@ frame-bytes text s at f b e =
     let same : take (size f) (drop at s) ≡ lay-frame f = ap (take (size f)) (sym (w .again (bytes-drop s at b))) ∙ take-at (lay-frame f) _ (size f) (length-frame f) in
     ap (λ (l : List ℕ). record { head = head-of f; bytes = l }) same
 
+-- its own bit, whatever its kind
+bit-told : (g : Settings) (o : Opt) → OptionFits g o → discardable (wire o .body) ≡ first-of o .discardable
+unfolding lay-option be16
+bit-told g (configuring b items) fit = ap (λ (c : First). c .discardable) (first-back b (fit .0))
+bit-told g (balancing b p w) fit = ap (λ (c : First). c .discardable) (first-back b fit)
+bit-told g (addressed family role b a r p q) fit = ap (λ (c : First). c .discardable) (first-back b (fit .0))
+bit-told g (unrecognised type b rest) fit = ap (λ (c : First). c .discardable) (first-back b (fit .0))
+
+size-laid : (g : Settings) (o : Opt) → OptionFits g o → size (wire o) ≡ length (lay-option o)
+size-laid g o fit = sym (length-frame (wire o)) ∙ ap length (wired g o fit .layout)
+
 pub frames-told : (g : Settings) (os : List Opt) → All (OptionFits g) os → map frame-told (map wire os) ≡ map told os
 frames-told g [] fit = refl
 frames-told g (o ∷ os) fit =
-    let first : frame-told (wire o) ≡ told o = ap (λ (l : List ℕ). record { head = head-of (wire o); bytes = l }) (wired g o (fit .0) .layout) in
+    let first : frame-told (wire o) ≡ told o = λ i. record {
+      head = record { code = getD (lay-option o) 2 0; discardable = bit-told g o (fit .0) i; size = size-laid g o (fit .0) i };
+      bytes = wired g o (fit .0) .layout i;
+    } in
     λ i. first i ∷ frames-told g os (fit .1) i
 
 pub take-map : {A B : Type 0} (f : A → B) (n : ℕ) (xs : List A) → map f (take n xs) ≡ take n (map f xs)

@@ -2,6 +2,7 @@ pub mod SizeLaws
 pub mod HeaderLaws
 pub mod EntryLoop
 pub mod ReadLaws
+pub mod FlagsByName
 pub mod PartLaws
 pub mod HandedOut
 pub mod OfTheCode

@@ -4,16 +4,16 @@ use Prim.Native.Nat.{ℕ}
 use mathlib.Core.Path.{_≡_}
 use mathlib.Core.Logic.{_↔_}
 use mathlib.Core.List.{List, _++_, map}
-use lib.ListN.{length, take, drop}
+use lib.ListN.{length, take, drop, getD}
 use Rattle.numbers.specs.Answers.{accepted, given}
 use Rattle.sd_format.specs.Settings.{Settings}
 use Rattle.sd_format.specs.Sequences.{HandsOut, counted}
-use Rattle.sd_format.specs.Options.{Opt}
-use Rattle.sd_format.specs.Layout.{lay-option, wire, lay-entries, lay-options, Payload, lay, Fits, Header, lay-header}
+use Rattle.sd_format.specs.Options.{First, Opt, configuring, balancing, addressed, unrecognised}
+use Rattle.sd_format.specs.Layout.{lay-option, lay-entries, lay-options, Payload, lay, Fits, Header, lay-header}
 use Rattle.sd_format.specs.Payload.{entries-part, options-part}
 use Rattle.sd_format.specs.Demand3.{LaidOut}
 use Rattle.sd_option.specs.declared.reading.OptionHead.{OptionHead}
-use Rattle.sd_option.specs.Reading.{head-of, option-said}
+use Rattle.sd_option.specs.Reading.{option-said}
 use Rattle.sd_entry.specs.declared.cursor.EntryCursor.{EntryCursor}
 use Rattle.sd_entry.specs.declared.cursor.EntryStep.{EntryStep}
 use Rattle.sd_entry.specs.Said.{answer-said}
@@ -42,8 +42,20 @@ pub record Told : Type 0 where
   pub head : OptionHead
   pub bytes : List ℕ
 
+-- the byte after its type
+abbrev pub first-of : Opt → First
+first-of (configuring first items) = first
+first-of (balancing first priority weight) = first
+first-of (addressed family role first address reserved protocol port) = first
+first-of (unrecognised type first rest) = first
+
+-- by its layout and its own first byte, with nothing of the reading: its type byte, its discardable bit, and how many bytes it takes
 abbrev pub told : Opt → Told
-told o = record { head = head-of (wire o); bytes = lay-option o }
+told o =
+    record {
+      head = record { code = getD (lay-option o) 2 0; discardable = first-of o .discardable; size = length (lay-option o) };
+      bytes = lay-option o;
+    }
 
 -- the bytes of an option of which the head was told, at its place in the options part
 abbrev pub told-at : List ℕ → ℕ → OptionHead → Told
