@@ -1,3 +1,4 @@
 pub mod KindLaws
 pub mod ReadingLaws
 pub mod OneAnswer
+pub mod ByName
