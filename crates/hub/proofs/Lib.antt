@@ -8,3 +8,4 @@ pub mod OneOutcome
 pub mod Telling
 pub mod HandedLaws
 pub mod OfTheHub
+pub mod ByName

@@ -35,6 +35,7 @@ use Rattle.sd_format.proofs.Demand3.{demand3}
 use Rattle.sd_field.specs.Said.{Decoded, decoded}
 use Rattle.sd_payload.specs.Sized.{sized}
 use Rattle.sd_payload.specs.Reads.{flags-laid, summed}
+use Rattle.sd_payload.proofs.FlagsByName.{flags-by-name-laid}
 use Rattle.hub.specs.declared.answers.Answer as hub
 use Rattle.hub.specs.declared.payload.Places.{Places}
 use Rattle.hub.specs.Answers.{row, told, option-values}
@@ -160,21 +161,7 @@ module _ (g : Settings) (os : List Opt) (w : All (OptionFits g) os) where
 
 -- ---- the payload
 
--- a flag's bit
-bit-worth : (x v : ℕ) → x < 2 → cond (eqb x 1) v 0 ≡ x * v
-bit-worth zero v h = sym (zero-mul v)
-bit-worth (suc zero) v h = sym (one-mul v)
-bit-worth (suc (suc x)) v h = absurd (omega arith)
-
--- the three flags are the three high bits of byte 0
-flags-as-sent : (b : ℕ) → b < 256 → flag-bits (flags-laid (flags b)) ≡ b / 32 * 32
-flags-as-sent b small =
-    let top : b / 128 % 2 ≡ b / 128 = omega arith in
-    let middle : b / 64 ≡ 2 * (b / 128) + b / 64 % 2 = omega arith in
-    let low : b / 32 ≡ 2 * (b / 64) + b / 32 % 2 = omega arith in
-    (λ i. bit-worth (b / 128 % 2) 128 (omega arith) i + bit-worth (b / 64 % 2) 64 (omega arith) i + bit-worth (b / 32 % 2) 32 (omega arith) i) ∙ omega arith
-
-take-its-length : (n : ℕ) (l : List ℕ) → take (length (take n l)) l ≡ take n l
+pub take-its-length : (n : ℕ) (l : List ℕ) → take (length (take n l)) l ≡ take n l
 take-its-length zero l = refl
 take-its-length (suc n) [] = refl
 take-its-length (suc n) (x ∷ l) = ap (λ (t : List ℕ). x ∷ t) (take-its-length n l)
@@ -207,7 +194,7 @@ module _ (word : ℕ) (s tab tab′ : List ℕ) (r : hub.Answer) (b : Bytes s) (
     answer =
         h .answers ∙ ap (λ (a : paper.Answer Reading). told summary-values (given summed a)) (lent-exactly tab (read-payload g s) .enough long ∙ read)
         ∙ (λ i. row 0 (flag-bits (flags-laid (flags (first-byte i))) ∷ length (q .entries) ∷ length-map (q .options) wire i ∷ []))
-        ∙ (λ i. row 0 (flags-as-sent (getD s 0 0) (b 0) i ∷ length (q .entries) ∷ length (q .options) ∷ []))
+        ∙ (λ i. row 0 (flags-by-name-laid .as-sent (getD s 0 0) (b 0) i ∷ length (q .entries) ∷ length (q .options) ∷ []))
 
     entries-laid : entries-part s ≡ lay-entries (q .entries)
     unfolding lay-parts

@@ -5,3 +5,4 @@ pub mod Entries
 pub mod Payload
 pub mod Telling
 pub mod OfTheHub
+pub mod ByName

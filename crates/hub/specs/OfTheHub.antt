@@ -23,7 +23,7 @@ use Rattle.hub.specs.declared.payload.Places.{Places}
 use Rattle.hub.specs.Answers.{row, told, option-values}
 use Rattle.hub.specs.Entries.{entry-told}
 use Rattle.hub.specs.Options.{option-fields, read-option-told}
-use Rattle.hub.specs.Payload.{settings-of, nowhere, places-told}
+use Rattle.hub.specs.Payload.{settings-of, places-told}
 
 -- where option k starts in the options part: behind the layouts of those before it
 abbrev pub start : List Opt → ℕ → ℕ
@@ -78,7 +78,8 @@ pub record OfTheHub (word : ℕ) (s tab : List ℕ) (r : Answer) : Type 0 where
   -- and then all that C is told is what was laid out
   pub after : (q : Payload) → LaidOut (settings-of word) s q → ToldToC q s tab r
   -- after a refusal the parts are empty
-  pub empty-parts : (r .number ≡ 0 → ⊥) → (p : Places) → p ≡ places-told (r .number) s → p ≡ nowhere
+  pub empty-parts : (r .number ≡ 0 → ⊥) → (p : Places) → p ≡ places-told (r .number) s
+      → p ≡ record { «entries_at» = 0; «entries_len» = 0; «options_at» = 0; «options_len» = 0 }
 
 -- the message `m` was read so: the same of what stands behind its header
 pub record OfTheMessage (word : ℕ) (m tab : List ℕ) (r : Answer) : Type 0 where

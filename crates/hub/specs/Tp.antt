@@ -88,7 +88,7 @@ pub record Stands (o : Out) (ws buf : List ℕ) (r : Answer) : Type 0 where
 -- the report r, b of a complete stream: its length is told, and in front stands what document 01 says of the accepted segments
 pub record Reports (segs : List (List ℕ)) (r : Answer) (b : List ℕ) : Type 0 where
   pub end : ℕ
-  pub told-length : r ≡ row 0 (one-value (16 + end))
+  pub told-length : r ≡ row 0 ((16 + end) ∷ [])
   pub reported : Reported segs end (take (16 + end) b)
 
 -- words that are unfit: every call but beginning answers 38 and changes nothing, and no stream in them is complete
@@ -96,13 +96,13 @@ pub record Shut (ws : List ℕ) : Type 0 where
   pub consuming : (seg buf : List ℕ) (r : Answer) (ws′ buf′ : List ℕ) → Consumes ws seg buf r ws′ buf′ → (r ≡ row 38 []) × (ws′ ≡ ws) × (buf′ ≡ buf)
   pub reporting : (buf : List ℕ) (r : Answer) (buf′ : List ℕ) → Takes ws buf r buf′ → (r ≡ row 38 []) × (buf′ ≡ buf)
   pub clearing : (r : Answer) (ws′ : List ℕ) → Clears ws r ws′ → (r ≡ row 38 []) × (ws′ ≡ ws)
-  pub incomplete : completes ws ≡ row 0 (one-value 0)
+  pub incomplete : completes ws ≡ row 0 (0 ∷ [])
 
 pub record OverWords : Type 0 where
   -- so what is shown of every run of the machine (tp_machine, Theorems) holds of what C calls
   pub runs : {limit : ℕ} {buf ws′ buf′ : List ℕ} {segs : List (List ℕ)} {r : Answer} → Called limit buf segs ws′ buf′ r → Stands (fed (opened limit buf) segs) ws′ buf′ r
   -- 1 is answered exactly where document 01 calls the stream complete
-  pub complete-means : (ws : List ℕ) → (completes ws ≡ row 0 (one-value 1)) ↔ Complete (state-of ws)
+  pub complete-means : (ws : List ℕ) → (completes ws ≡ row 0 (1 ∷ [])) ↔ Complete (state-of ws)
   -- and its report is then given, whatever came
   pub reports : {limit : ℕ} {buf ws′ buf′ b : List ℕ} {segs : List (List ℕ)} {r t : Answer} → Called limit buf segs ws′ buf′ r → Complete (state-of ws′) → Takes ws′ buf′ t b
       → Reports (admitted (opened limit buf) segs) t b
