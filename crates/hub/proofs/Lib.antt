@@ -9,3 +9,4 @@ pub mod Telling
 pub mod HandedLaws
 pub mod OfTheHub
 pub mod ByName
+pub mod Called
