@@ -1,3 +1,4 @@
 pub mod ByName
 pub mod Laws
 pub mod OneToOne
+pub mod Called

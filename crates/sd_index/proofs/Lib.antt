@@ -6,3 +6,4 @@ pub mod FoundLaws
 pub mod OptionPinned
 pub mod StepLaws
 pub mod OneOutcome
+pub mod Called

@@ -7,3 +7,4 @@ pub mod PartLaws
 pub mod HandedOut
 pub mod OfTheCode
 pub mod OneOutcome
+pub mod Called
