@@ -79,7 +79,7 @@ module _ (d : List ℕ) (at : ℕ) (s : List ℕ) (n : ℕ) (inner : at + length
 -- ---- a segment's bytes in the buffer
 tp-cleared : (t : ℕ) → Cleared t (without-tp t)
 unfolding without-tp
-tp-cleared t = ((λ e. omega arith), (λ e. omega arith))
+tp-cleared t = omega arith
 
 pub header-means : HeaderMeans
 unfolding header

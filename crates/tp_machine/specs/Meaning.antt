@@ -1,6 +1,6 @@
 -- Document 01's conditions of joining in plain words: what the machine's tests are shown to mean.
 -- Assumes nothing: these are definitions.
-use Prim.Native.Nat.{ℕ, _+_, _/_, _%_, _≤_, _<_}
+use Prim.Native.Nat.{ℕ, _+_, _*_, _/_, _%_, _≤_, _<_}
 use mathlib.Core.Path.{_≡_}
 use mathlib.Core.Bool.{Bool, true, false}
 use mathlib.Core.List.{List, [], _∷_}
@@ -28,9 +28,9 @@ pub record Segment (s : List ℕ) : Type 0 where
   pub version : getD s 12 0 ≡ 1
   pub type : OneOf (getD s 14 0) types
 
--- u is t with 0x20 cleared
+-- u is t with 0x20 cleared: u, and that bit of t where it is set, make t
 abbrev pub Cleared : (t u : ℕ) → Type 0
-Cleared t u = (t / 0x20 % 2 ≡ 1 → u + 0x20 ≡ t) × (t / 0x20 % 2 ≡ 0 → u ≡ t)
+Cleared t u = u + 0x20 * (t / 0x20 % 2) ≡ t
 
 -- the header h that a segment brings: its 16 header bytes, with 0x20 cleared in byte 14
 pub record HeaderOf (s h : List ℕ) : Type 0 where
