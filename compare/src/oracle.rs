@@ -1,4 +1,4 @@
-//! What the crate someip_parse says, as document 01's numbers and values; one function for each call.
+//! What the crate someip_parse says, as the rules' numbers and values; one function for each call.
 //! Nothing is judged here: errors are renamed, and slices become the places where they lie.
 
 use crate::calls::{Answer, Entry, Opt, Places, NOTHING, SLOTS};
@@ -204,7 +204,7 @@ pub fn option_at(index: &SdOptionsIndex, ordinal: usize) -> Answer {
     }
 }
 
-/// Document 01's lookup in any table, with the crate's decoding of one option: the crate itself has no lent table.
+/// The rules' lookup in any table, with the crate's decoding of one option: the crate itself has no lent table.
 pub fn lookup_in(options: &[u8], table: &[u16], count: usize, ordinal: usize) -> Answer {
     let misfit = Answer::new(21, &[]);
     if ordinal >= count {
@@ -406,7 +406,7 @@ mod tests {
         }
     }
 
-    /// Document 01, 'Both sides of each line': payloads.
+    /// The rules, 'Both sides of each line': payloads.
     #[test]
     fn payloads_of_document_01() {
         assert_eq!(said(&[0; 12], false), Answer::new(0, &[]));
@@ -442,7 +442,7 @@ mod tests {
         );
     }
 
-    /// Document 01, 'Both sides of each line': strings.
+    /// The rules, 'Both sides of each line': strings.
     #[test]
     fn strings_of_document_01() {
         for (text, values) in [

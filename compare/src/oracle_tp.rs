@@ -1,4 +1,4 @@
-//! The crate's `TpBuf` as one stream: its answers as document 01's numbers and values, and its state, which it shows only to a `Hasher`.
+//! The crate's `TpBuf` as one stream: its answers as the rules' numbers and values, and its state, which it shows only to a `Hasher`.
 
 use crate::calls::{Answer, MOST_RANGES};
 use someip_parse::err::TpReassembleError;
@@ -69,7 +69,7 @@ impl Stream {
         }
     }
 
-    /// Whether the segment, if it is accepted, leaves more ranges than document 01's comparison domain has.
+    /// Whether the segment, if it is accepted, leaves more ranges than the rules' comparison domain has.
     pub fn would_overflow(&self, segment: &[u8]) -> bool {
         let Some(message) = as_segment(segment) else {
             return false;
@@ -130,7 +130,7 @@ impl Stream {
     }
 }
 
-/// Whether the crate accepts the front of the bytes as a message and ignores the rest; 30 is then document 01's alone.
+/// Whether the crate accepts the front of the bytes as a message and ignores the rest; 30 is then the rules' alone.
 pub fn has_bytes_behind(bytes: &[u8]) -> bool {
     SomeipMsgSlice::from_slice(bytes).is_ok_and(|message| message.slice().len() != bytes.len())
 }
@@ -170,7 +170,7 @@ mod tests {
         segment(offset, more, &vec![7; length])
     }
 
-    /// Document 01, 'Both sides of each line': TP.
+    /// The rules, 'Both sides of each line': TP.
     #[test]
     fn streams_of_document_01() {
         let mut stream = Stream::begin(65_520);

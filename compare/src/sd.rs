@@ -275,7 +275,7 @@ impl<'a, P: Calls> Sd<'a, P> {
         }
     }
 
-    /// Lookup in a table that no index filled: the crate has none such, document 01 and its decoding of one option decide.
+    /// Lookup in a table that no index filled: the crate has none such, the rules and its decoding of one option decide.
     pub fn foreign_table(&mut self, options: &[u8], table: &[u16], count: usize, ordinal: usize) {
         let want = oracle::lookup_in(options, table, count, ordinal);
         let name = || format!("place {ordinal} of {count} in {table:?}: {}", hex(options));

@@ -42,7 +42,7 @@ pub struct Tally {
     pub compared: Counts,
     /// The crate's answers by number; a string's error as 90 plus which of the six.
     pub answers: BTreeMap<u64, u64>,
-    /// Answers that the crate has not, judged by document 01 alone, by number.
+    /// Answers that the crate has not, judged by the rules alone, by number.
     pub by_document: BTreeMap<u64, u64>,
     /// Inputs that fell outside what can be compared, by why.
     pub left_out: Counts,
@@ -129,7 +129,7 @@ impl Tally {
             };
             println!("  {count:>12}  {name}");
         }
-        println!("answers that the crate has not, compared with document 01 alone:");
+        println!("answers that the crate has not, compared with the rules alone:");
         for (number, count) in &self.by_document {
             println!("  {count:>12}  {number}");
         }

@@ -63,7 +63,7 @@ impl<'a, P: Calls> Tp<'a, P> {
         }
     }
 
-    /// One sequence inside document 01's domain: the buffer has room for the limit. A segment that would make a 33rd range is not handed to
+    /// One sequence inside the rules' domain: the buffer has room for the limit. A segment that would make a 33rd range is not handed to
     /// the crate; 35 is due.
     pub fn sequence(&mut self, sequence: &Sequence) {
         self.tally.input("sequences of segments");
@@ -137,7 +137,7 @@ impl<'a, P: Calls> Tp<'a, P> {
         self.state_is(stream, lent, touched, sequence, number);
     }
 
-    /// The crate's answer to a segment, or 35 by document 01.
+    /// The crate's answer to a segment, or 35 by the rules.
     fn consume(&mut self, stream: &mut Stream, segment: &[u8]) -> Answer {
         if stream.would_overflow(segment) {
             // A refusal that comes before 35 is still the crate's.
@@ -201,7 +201,7 @@ impl<'a, P: Calls> Tp<'a, P> {
         self.tally.same("buffer", &want, &lent.buffer, name);
     }
 
-    /// What only document 01 says: 34 under a short buffer, 36, 38, and states of too few words.
+    /// What only the rules say: 34 under a short buffer, 36, 38, and states of too few words.
     pub fn by_document(&mut self, sequence: &Sequence, short: usize, limit: u32) {
         let mut lent = Lent::new(short);
         let mut stream = Stream::begin(sequence.limit);
@@ -281,7 +281,7 @@ impl<'a, P: Calls> Tp<'a, P> {
             });
     }
 
-    /// The state damaged in each way that document 01 lists: 38, nothing written; and too few words.
+    /// The state damaged in each way that the rules list: 38, nothing written; and too few words.
     fn malformed(&mut self, lent: &Lent, sequence: &Sequence) {
         let limit = lent.state[0];
         let damage: [(&str, Spoil); 8] = [

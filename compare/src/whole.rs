@@ -120,7 +120,7 @@ pub fn one_sequence<P: Calls>(tp: &mut Tp<P>, seed: u64, number: u64) {
     tp.sequence(&tp_inputs::sequence(&mut r));
 }
 
-/// A sequence outside it, where document 01 alone says what is due.
+/// A sequence outside it, where the rules alone say what is due.
 fn one_short<P: Calls>(tp: &mut Tp<P>, seed: u64, number: u64) {
     let mut r = Random::of(seed, family::SHORT, number);
     let sequence = tp_inputs::sequence(&mut r);

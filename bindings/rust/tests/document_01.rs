@@ -1,4 +1,4 @@
-//! Document 01's cases, 'both sides of each line', through the safe types.
+//! The rules' cases, 'both sides of each line', through the safe types.
 
 mod common;
 use common::*;

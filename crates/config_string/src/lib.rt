@@ -1,5 +1,5 @@
 // The check of a configuration string: items of a length byte and that many bytes, closed by a zero length byte, which must be the last byte.
-// One function for each rule of document 01, all with the same answer; an item's bytes are looked at once, and no further than its key.
+// One function for each rule, all with the same answer; an item's bytes are looked at once, and no further than its key.
 // Below, `at` is the place of the item's length byte, which the errors give.
 use refusal::Count;
 use refusal::Refusal;

@@ -1,4 +1,4 @@
--- What C is told of one entry, one option and one item, by the names of the exported fields: an entry laid out by its names at document 01's
+-- What C is told of one entry, one option and one item, by the names of the exported fields: an entry laid out by its names at the rules'
 -- places is its layout; the told places of an option hold its address and its string; fields that a kind has not hold 0, and so do all after a
 -- refusal. Written from the layout, beside the definitions that the promises cite and not by them. proofs/ByName.antt proves it. Assumes
 -- nothing: these are definitions.

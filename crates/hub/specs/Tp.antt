@@ -85,7 +85,7 @@ pub record Stands (o : Out) (ws buf : List ℕ) (r : Answer) : Type 0 where
   pub buffer : buf ≡ o .buffer
   pub answer : r ≡ told no-values (o .answer)
 
--- the report r, b of a complete stream: its length is told, and in front stands what document 01 says of the accepted segments
+-- the report r, b of a complete stream: its length is told, and in front stands what the rules say of the accepted segments
 pub record Reports (segs : List (List ℕ)) (r : Answer) (b : List ℕ) : Type 0 where
   pub end : ℕ
   pub told-length : r ≡ row 0 ((16 + end) ∷ [])
@@ -101,7 +101,7 @@ pub record Shut (ws : List ℕ) : Type 0 where
 pub record OverWords : Type 0 where
   -- so what is shown of every run of the machine (tp_machine, Theorems) holds of what C calls
   pub runs : {limit : ℕ} {buf ws′ buf′ : List ℕ} {segs : List (List ℕ)} {r : Answer} → Called limit buf segs ws′ buf′ r → Stands (fed (opened limit buf) segs) ws′ buf′ r
-  -- 1 is answered exactly where document 01 calls the stream complete
+  -- 1 is answered exactly where the rules call the stream complete
   pub complete-means : (ws : List ℕ) → (completes ws ≡ row 0 (1 ∷ [])) ↔ Complete (state-of ws)
   -- and its report is then given, whatever came
   pub reports : {limit : ℕ} {buf ws′ buf′ b : List ℕ} {segs : List (List ℕ)} {r t : Answer} → Called limit buf segs ws′ buf′ r → Complete (state-of ws′) → Takes ws′ buf′ t b

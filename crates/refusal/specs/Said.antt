@@ -1,4 +1,4 @@
--- Document 01's number and values for everything that the code refuses, and what the answers say that all layers share. Assumes nothing:
+-- The rules' number and values for everything that the code refuses, and what the answers say that all layers share. Assumes nothing:
 -- these are definitions.
 use Prim.Native.Nat.{ℕ, zero, suc}
 use mathlib.Core.List.{List, [], _∷_}

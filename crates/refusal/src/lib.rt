@@ -1,4 +1,4 @@
-// Everything that is refused, once for all layers, whose answers hold it; document 01's number and values for it; and the two answers that
+// Everything that is refused, once for all layers, whose answers hold it; the rules' number and values for it; and the two answers that
 // all layers share. Offsets and lengths are `usize`, numbers off the wire have their width there.
 mod answers; // answers.rt: a verdict, and a count
 mod values; // values.rt: the number and the values of a refusal
@@ -45,7 +45,7 @@ pub enum StringError {
     },
 }
 
-// In the order of document 01's table.
+// In the order of the rules' table.
 pub enum Refusal {
     UnexpectedEndOfSlice(usize),
     EntriesLengthTooLarge(u32),

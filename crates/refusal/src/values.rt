@@ -1,4 +1,4 @@
-// Document 01's number and values of a refusal, as data.
+// The rules' number and values of a refusal, as data.
 use crate::LengthSource;
 use crate::Refusal;
 use crate::StringError;

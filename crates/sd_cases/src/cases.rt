@@ -1,6 +1,6 @@
 // The bytes of the cases.
 
-// Document 01's whole payload: reboot; an offer of service 0x1234, TTL 3600, whose run 1 holds one IPv4 endpoint.
+// The rules' whole payload: reboot; an offer of service 0x1234, TTL 3600, whose run 1 holds one IPv4 endpoint.
 pub(crate) const WHOLE: [u8; 40] = [
     0x80,
     0x00,

@@ -1,4 +1,4 @@
--- The readings follow document 01's rules: line by line, as both are written. Assumes nothing.
+-- The readings follow the rules: line by line, as both are written. Assumes nothing.
 use mathlib.Core.Path.{_≡_, refl, sym, ap, _∙_, subst}
 use mathlib.Core.Bool.{Bool, true, false, not, _||_, true≢false, false≢true}
 use mathlib.Core.Logic.{_↔_, _≢_, _⊎_, inl, inr, ⊎-elim}

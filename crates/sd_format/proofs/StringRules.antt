@@ -1,4 +1,4 @@
--- The configuration string follows document 01's rules: which of the six errors comes, and with which numbers. Assumes nothing.
+-- The configuration string follows the rules: which of the six errors comes, and with which numbers. Assumes nothing.
 use mathlib.Core.Path.{_≡_, refl, sym, ap, _∙_, subst}
 use mathlib.Core.Bool.{Bool, true, false, not, _&&_, and-false}
 use mathlib.Core.Logic.{_↔_, _≢_, _⊎_, inl, inr}

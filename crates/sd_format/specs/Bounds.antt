@@ -1,4 +1,4 @@
--- Computed beside the marked cases: document 01's unmarked cases of service discovery and of configuration strings, both sides of the lines of
+-- Computed beside the marked cases: the rules' unmarked cases of service discovery and of configuration strings, both sides of the lines of
 -- the sizes, of runs and of lookup, the cursors, and the lent table. The marked ones are in specs/Cases.antt. Assumes nothing: these are definitions.
 use Prim.Native.Nat.{ℕ, zero, suc}
 use mathlib.Core.Path.{_≡_}

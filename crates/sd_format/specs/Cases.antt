@@ -1,4 +1,4 @@
--- Document 01's marked cases (*) of service discovery and of configuration strings, as one table. Assumes nothing: these are definitions.
+-- The rules' marked cases (*) of service discovery and of configuration strings, as one table. Assumes nothing: these are definitions.
 use Prim.Native.Nat.{ℕ}
 use mathlib.Core.Path.{_≡_}
 use mathlib.Core.Bool.{Bool, true, false}

@@ -20,7 +20,7 @@ pub data Length : Type 0 where
   exactly : ℕ → Length
   one-or-more : Length
 
--- a row of document 01's table
+-- a row of the rules' table
 pub record Row : Type 0 where
   pub code : ℕ
   pub kind : Kind

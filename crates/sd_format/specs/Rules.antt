@@ -1,4 +1,4 @@
--- Document 01's rules of service discovery in plain words and in their order, each refusal with its number and its values. The readings follow
+-- The rules of service discovery in plain words and in their order, each refusal with its number and its values. The readings follow
 -- them (specs/Theorems.antt): each is refused exactly by the first rule whose condition holds. Assumes nothing: these are definitions.
 use Prim.Native.Nat.{ℕ, _+_, _/_, _%_, _≤_, _<_}
 use mathlib.Core.Path.{_≡_}

@@ -76,7 +76,7 @@ pub record Theorems : Type 1 where
   pub order : Order
   -- what the lent table holds
   pub tables-left : TablesLeft
-  -- document 01's marked cases; and what else is computed: each field at its place, the unmarked cases and the lines of lookup
+  -- the rules' marked cases; and what else is computed: each field at its place, the unmarked cases and the lines of lookup
   pub cases : Cases
   pub places : Places
   pub bounds : Bounds

@@ -1,4 +1,4 @@
--- Document 01's table by the code's own names: by computing. Assumes nothing.
+-- The rules' table by the code's own names: by computing. Assumes nothing.
 use Prim.Native.Nat.{ℕ}
 use mathlib.Core.Path.{_≡_, refl, sym, ap, _∙_}
 use Rattle.sd_format.specs.Kinds.{Row, row-of, row-in, kinds}

@@ -1,4 +1,4 @@
--- Document 01's table by the code's own names, in literal numbers: which type has which kind, family, role and length; and the setting by its
+-- The rules' table by the code's own names, in literal numbers: which type has which kind, family, role and length; and the setting by its
 -- name. Written beside `kind-said`, `encoded` and `settings-said` and not by them: names that are swapped there and in the code together are
 -- refused here. proofs/ByName.antt proves it. Assumes nothing: these are definitions.
 use Prim.Native.Nat.{ℕ}

@@ -1,4 +1,4 @@
--- What the code's kinds say, and document 01's table in the code's form. Assumes nothing: these are definitions.
+-- What the code's kinds say, and the rules' table in the code's form. Assumes nothing: these are definitions.
 use mathlib.Core.List.{List, map}
 use Rattle.sd_format.specs.Options as format
 use Rattle.sd_format.specs.Kinds.{Kind, configuration, load-balancing, address, unknown, Length, exactly, one-or-more, Row, kinds}

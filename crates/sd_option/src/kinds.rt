@@ -1,4 +1,4 @@
-// The kinds of options: document 01's table of type codes and lengths, and what a type has there.
+// The kinds of options: the rules' table of type codes and lengths, and what a type has there.
 ghost use mathlib.Core.Path.{_≡_};
 ghost use Prim.Native.Nat.{_<_};
 ghost use lib.ListN.{getD};

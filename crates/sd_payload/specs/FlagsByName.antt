@@ -1,4 +1,4 @@
--- The flags by the names that the code has for them, at the bits that document 01 gives them in byte 0, and the statements that a payload's
+-- The flags by the names that the code has for them, at the bits that the rules give them in byte 0, and the statements that a payload's
 -- flags lie there and that every byte's three high bits come back. Written beside `flags-laid` and not by it: names that are swapped in
 -- `flags-laid` and in the code together are refused here. proofs/FlagsByName.antt proves them. Assumes nothing: these are definitions.
 use Prim.Native.Nat.{ℕ, _+_, _*_, _/_, _<_}

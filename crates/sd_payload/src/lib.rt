@@ -1,4 +1,4 @@
-// A whole service discovery payload, and the message with its SD header: every refusal in document 01's order, the offsets of the options in a
+// A whole service discovery payload, and the message with its SD header: every refusal in the rules' order, the offsets of the options in a
 // lent table, and the parts of the payload as parts of the caller's bytes.
 mod entries;
 mod header;

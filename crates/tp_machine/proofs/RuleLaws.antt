@@ -1,4 +1,4 @@
--- The machine follows document 01's rules: line by line, as both are written. Assumes nothing.
+-- The machine follows the rules: line by line, as both are written. Assumes nothing.
 use Prim.Native.Nat.{ℕ, _+_, _%_, _<_}
 use mathlib.Core.Path.{_≡_, refl, ap}
 use mathlib.Core.Bool.{Bool, true, false, not, or-true, false≢true}

@@ -1,4 +1,4 @@
--- The machine's tests mean what document 01 says in plain words, both ways; and an accepted segment leaves no malformed state.
+-- The machine's tests mean what the rules say in plain words, both ways; and an accepted segment leaves no malformed state.
 -- Assumes nothing.
 use Prim.Native.Nat.{ℕ, _+_, _-_, _%_, _≤_}
 use mathlib.Core.Path.{_≡_, refl, sym, ap, _∙_}

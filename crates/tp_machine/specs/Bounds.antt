@@ -1,4 +1,4 @@
--- Computed beside the marked case: document 01's unmarked cases of joining, and both sides of the lines that its cases leave open: what is a
+-- Computed beside the marked case: the rules' unmarked cases of joining, and both sides of the lines that those cases leave open: what is a
 -- segment, another end, how many ranges are held, the highest limit, the buffer's length, each rule of 38, and which bytes a segment writes. The
 -- marked case is in specs/Cases.antt. Assumes nothing: these are definitions.
 use Prim.Native.Nat.{ℕ, zero, suc, _+_, _*_}
@@ -18,7 +18,7 @@ use Rattle.tp_machine.specs.Taking.{complete, taking}
 use Rattle.tp_machine.specs.Meaning.{range}
 use Rattle.tp_machine.specs.Cases.{_more-at_, _final-at_, Case, case, Hold}
 
--- ---- document 01's unmarked cases
+-- ---- the rules' unmarked cases
 
 abbrev pub unmarked : List Case
 unmarked =

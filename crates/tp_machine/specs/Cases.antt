@@ -1,4 +1,4 @@
--- Document 01's marked case (*) of joining, as a table. Assumes nothing: these are definitions.
+-- The rules' marked case (*) of joining, as a table. Assumes nothing: these are definitions.
 use Prim.Native.Nat.{ℕ, _+_}
 use mathlib.Core.Path.{_≡_}
 use mathlib.Core.Bool.{Bool, true, false, cond}

@@ -1,4 +1,4 @@
--- Document 01's conditions of joining in plain words: what the machine's tests are shown to mean.
+-- The rules' conditions of joining in plain words: what the machine's tests are shown to mean.
 -- Assumes nothing: these are definitions.
 use Prim.Native.Nat.{ℕ, _+_, _*_, _/_, _%_, _≤_, _<_}
 use mathlib.Core.Path.{_≡_}

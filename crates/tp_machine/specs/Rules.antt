@@ -1,4 +1,4 @@
--- Document 01's rules of joining in plain words and in their order, each refusal with its number and its values. The machine follows them
+-- The rules of joining in plain words and in their order, each refusal with its number and its values. The machine follows them
 -- (specs/Theorems.antt): each call is refused exactly by the first rule whose condition holds. Assumes nothing: these are definitions.
 use Prim.Native.Nat.{ℕ, _+_, _%_, _<_}
 use mathlib.Core.Path.{_≡_}

@@ -23,7 +23,7 @@ use Rattle.tp_machine.specs.Cases.{Cases}
 use Rattle.tp_machine.specs.Bounds.{Bounds}
 use Rattle.tp_machine.specs.Order.{Order}
 
--- ---- the tests mean what document 01 says, both ways
+-- ---- the tests mean what the rules say, both ways
 abbrev pub SegmentMeans : Type 0
 SegmentMeans = (s : List ℕ) → (is-segment s ≡ true) ↔ Segment s
 
@@ -163,6 +163,6 @@ pub record Theorems : Type 0 where
   pub set-is-order : SetIsOrder
   pub order-unseen : OrderUnseen
   pub runs-alike : RunsAlike
-  -- document 01's marked case, and what else is computed
+  -- the rules' marked case, and what else is computed
   pub cases : Cases
   pub bounds : Bounds

@@ -1,4 +1,4 @@
--- A segment's header by the names that the code has for its fields: laid out at document 01's places in the TP word, with the three reserved bits
+-- A segment's header by the names that the code has for its fields: laid out at the rules' places in the TP word, with the three reserved bits
 -- as sent, they are that word. Written beside `header-of` and not by it. proofs/ByName.antt proves it. Assumes nothing: these are definitions.
 use Prim.Native.Nat.{ℕ, _+_, _*_, _/_, _%_, _≤_}
 use mathlib.Core.Path.{_≡_}

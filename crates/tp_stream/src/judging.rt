@@ -1,4 +1,4 @@
-// The test before a stream is begun (36), and those before a segment is joined, in document 01's order: 38, 30, 31, 32, 33, 34. Each rule is a
+// The test before a stream is begun (36), and those before a segment is joined, in the rules' order: 38, 30, 31, 32, 33, 34. Each rule is a
 // function.
 ghost use mathlib.Core.Path.{_≡_};
 ghost use mathlib.Core.Bool.{_&&_, not};

@@ -1,7 +1,7 @@
 //! Bytes for the tests.
 #![allow(dead_code)]
 
-/// Document 01's whole payload: an offer whose first run holds one IPv4 endpoint.
+/// The rules' whole payload: an offer whose first run holds one IPv4 endpoint.
 pub const WHOLE: &str =
     "80000000 00000010 01000010 12345678 01000E10 01000000 0000000C 00090400 C0A80101 00061F90";
 

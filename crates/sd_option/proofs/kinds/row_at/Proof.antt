@@ -1,4 +1,4 @@
--- `kinds::row_at` meets its contract: the code's table is document 01's, row for row. Assumes nothing.
+-- `kinds::row_at` meets its contract: the code's table is the rules', row for row. Assumes nothing.
 use mathlib.Core.Path.{refl}
 use Rattle.sd_format.specs.Kinds.{kinds}
 use borrow.Author.Needs.{needs}
