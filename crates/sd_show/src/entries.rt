@@ -1,7 +1,7 @@
-// The entries, each with the options of its two runs.
+// The entries, each with the numbers of the options of its two runs.
 use crate::options::run;
+use crate::told::told;
 use print::named;
-use print::named_code;
 use print::text;
 use print::yes_or_no;
 use sd_entry::EntryAnswer;
@@ -49,15 +49,22 @@ fn eventgroup_word(entry_type: EventGroupEntryType, ttl: u32) {
 }
 
 fn head_words(head: EntryHead) {
-    named_code(b"", head.service_id as u64, 4);
-    named_code(b", instance ", head.instance_id as u64, 4);
-    named(b", major version ", head.major_version as usize);
-    named(b", TTL ", head.ttl as usize);
+    told(
+        b"%04, instance %14, major version %2d, TTL %3d",
+        [
+            head.service_id as u64,
+            head.instance_id as u64,
+            head.major_version as u64,
+            head.ttl as u64,
+        ],
+    );
 }
 
 fn group_words(group: EventGroup) {
-    named_code(b", eventgroup ", group.eventgroup_id as u64, 4);
-    named(b", counter ", group.counter as usize);
+    told(
+        b", eventgroup %04, counter %1d",
+        [group.eventgroup_id as u64, group.counter as u64, 0, 0],
+    );
     yes_or_no(b", initial data requested ", group.initial_data_requested);
 }
 
@@ -84,17 +91,18 @@ fn entry_words(entry: SdEntry) {
     }
 }
 
-// One of an entry's runs: nothing of an empty one.
+// One of an entry's runs, on a line; nothing of an empty one.
 fn one_run(name: &[u8], start: u8, count: u8, options: &[u8], table: &[u16], total: usize) {
     if count != 0 {
         text(name);
         run(options, table, total, RunCursor::new(start, count));
+        text(b"\n");
     }
 }
 
 fn runs(head: EntryHead, options: &[u8], table: &[u16], total: usize) {
     one_run(
-        b"  run 1\n",
+        b"  run 1",
         head.start_index_options_1,
         head.number_of_options_1,
         options,
@@ -102,13 +110,22 @@ fn runs(head: EntryHead, options: &[u8], table: &[u16], total: usize) {
         total,
     );
     one_run(
-        b"  run 2\n",
+        b"  run 2",
         head.start_index_options_2,
         head.number_of_options_2,
         options,
         table,
         total,
     );
+}
+
+// An entry with its number and its runs.
+fn listed(place: usize, entry: SdEntry, options: &[u8], table: &[u16], total: usize) {
+    named(b"entry ", place);
+    text(b": ");
+    entry_words(entry);
+    text(b"\n");
+    runs(entry.head(), options, table, total);
 }
 
 // All entries, by the cursor; `total` is how many options there are.
@@ -122,11 +139,7 @@ pub(crate) fn all(entries: &[u8], options: &[u8], table: &[u16], total: usize) {
         let EntryAnswer::Good(entry) = answer else {
             return;
         };
-        named(b"entry ", turns);
-        text(b": ");
-        entry_words(entry);
-        text(b"\n");
-        runs(entry.head(), options, table, total);
+        listed(turns, entry, options, table, total);
         turns += 1;
     }
 }

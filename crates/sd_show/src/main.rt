@@ -1,95 +1,95 @@
-// sd_show [--message] [FILE]: shows a service discovery payload, or with --message a whole message, of raw bytes or hex text from a file or
-// from standard input.
-use input::Form;
-use print::named;
+// sd_show [--message] [--discard]: shows the service discovery payload that comes on standard input, as raw bytes, or with --message a whole
+// message; with --discard by the discard setting. One line begins `accepted` or `refused, NUMBER:`. bin/show takes files, hex and many at once.
 use print::text;
+use sd_option::Settings;
 
 mod entries; // entries.rt: the entries with their runs
-mod input; // input.rt: raw bytes or hex text
-mod options; // options.rt: one option, and the options of a run
+mod header; // header.rt: a message's header
+mod options; // options.rt: one option, the options of a run, and all of them
 mod payload; // payload.rt: a whole payload or message
+mod told; // told.rt: text with numbers in it
 mod words; // words.rt: a refusal in words
 
-// More bytes than a message of service discovery has, as hex text with a space between any two digits: what is longer is none.
-const ROOM: usize = 8192;
+// What is asked by the words that the program is started with.
+struct Asked {
+    message: bool,
+    discard: bool,
+    unknown: bool,
+}
 
-// Says so where there are more bytes than can be; the answer to them follows.
-fn too_long(most: usize, n: usize) {
-    if most < n {
-        named(b"longer than it can be: bytes at most ", most);
-        named(b", bytes that came ", n);
-        text(b"\n");
+// What is asked with a word more.
+fn with_word(asked: Asked, word: &[u8]) -> Asked {
+    if check::same(word, b"--message") {
+        return Asked {
+            message: true,
+            discard: asked.discard,
+            unknown: asked.unknown,
+        };
+    }
+    if check::same(word, b"--discard") {
+        return Asked {
+            message: asked.message,
+            discard: true,
+            unknown: asked.unknown,
+        };
+    }
+    Asked {
+        message: asked.message,
+        discard: asked.discard,
+        unknown: true,
     }
 }
 
-fn show(message: bool, bytes: &[u8]) {
-    if message {
-        too_long(1416, bytes.len());
-        payload::show_message(bytes);
+// What is asked with the word at a place more.
+fn with_argument(asked: Asked, place: usize) -> Asked {
+    let mut word = io::buffer();
+    let n = os::arg(place, &mut word);
+    with_word(asked, &word[..n])
+}
+
+// What is asked by all words.
+fn by_arguments() -> Asked {
+    let mut asked = Asked {
+        message: false,
+        discard: false,
+        unknown: false,
+    };
+    let count = os::arg_count();
+    let mut place: usize = 1;
+    while place < count {
+        asked = with_argument(asked, place);
+        place += 1;
+    }
+    asked
+}
+
+fn show(asked: Asked, bytes: &[u8]) {
+    let settings = Settings {
+        discard_unknown_option: asked.discard,
+    };
+    if asked.message {
+        payload::show_message(settings, bytes);
     } else {
-        too_long(1400, bytes.len());
-        payload::show(bytes);
+        payload::show(settings, bytes);
     }
 }
 
-// The first bytes of what was decoded.
-fn show_front(message: bool, n: usize, decoded: &[u8]) {
-    if decoded.len() < n {
+// What comes on standard input: fewer bytes than there is room for, so that none is left out.
+fn show_input(asked: Asked) {
+    let mut bytes = io::large_buffer();
+    let n = io::read_full(libc::STDIN_FILENO, &mut bytes);
+    if 65536 <= n {
+        text(b"not shown: more than 65535 bytes, and a message has 1416 at most\n");
         return;
     }
-    show(message, &decoded[..n]);
-}
-
-fn show_form(message: bool, form: Form, raw: &[u8], decoded: &[u8]) {
-    match form {
-        Form::Raw => show(message, raw),
-        Form::Hex(n) => show_front(message, n, decoded),
-        Form::Odd => text(
-            b"not shown: hex text with half a byte left over, an odd number of digits\n",
-        ),
-    }
-}
-
-// What an open file holds.
-fn show_file(message: bool, fd: i32) {
-    let mut raw = [0u8; ROOM];
-    let mut decoded = [0u8; ROOM];
-    let n = io::read_full(fd, &mut raw);
-    if ROOM <= n {
-        named(
-            b"not shown: longer than a payload can be (1400 bytes); bytes read before giving up: ",
-            n,
-        );
-        text(b"\n");
-        return;
-    }
-    let form = input::form_of(&raw[..n], &mut decoded);
-    show_form(message, form, &raw[..n], &decoded);
-}
-
-// The file that argument `place` names, or standard input where there is none.
-fn show_named(message: bool, place: usize) {
-    if os::arg_count() <= place {
-        show_file(message, libc::STDIN_FILENO);
-        return;
-    }
-    let mut path = io::buffer();
-    let n = os::arg(place, &mut path);
-    let fd = os::open_read(&path[..n]);
-    if fd < 0 {
-        os::fail(&path[..n]);
-        return;
-    }
-    show_file(message, fd);
-    libc::close(fd);
+    show(asked, &bytes[..n]);
 }
 
 fn main() {
-    let mut first = io::buffer();
-    let n = os::arg(1, &mut first);
-    if check::same(&first[..n], b"--message") {
-        show_named(true, 2);
-    } else {
-        show_named(false, 1);
+    let asked = by_arguments();
+    if asked.unknown {
+        text(b"not shown: the words are --message and --discard\n");
+        return;
     }
+    show_input(asked);
 }

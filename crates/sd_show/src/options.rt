@@ -1,109 +1,104 @@
-// An option, and the options of a run.
-use crate::words::refused;
-use config_string::ItemAnswer;
-use libc::STDOUT_FILENO;
+// Options: one in a few words beside an entry, one with all that it holds, the options of a run, and all of them.
+use crate::told::told;
 use print::bytes;
-use print::coded;
 use print::named;
-use print::number;
 use print::text;
 use print::yes_or_no;
-use sd_field::ByteAnswer;
-use sd_field::SizeAnswer;
-use sd_field::WordAnswer;
+use refusal::Count;
+use sd_field::FieldsAnswer;
+use sd_field::IpAddress;
+use sd_field::SdOption;
 use sd_index::FoundAnswer;
+use sd_index::Offset;
+use sd_index::Ordinal;
 use sd_index::RunCursor;
-use sd_option::kinds::OptionKind;
-use sd_option::kinds::kind_of;
-use sd_option::reading::OptionHead;
+use sd_option::kinds::Role;
 
-fn kind_word(kind: OptionKind) {
-    match kind {
-        OptionKind::Configuration => text(b"configuration"),
-        OptionKind::LoadBalancing => text(b"load balancing"),
-        OptionKind::Ipv4Endpoint => text(b"IPv4 endpoint"),
-        OptionKind::Ipv4Multicast => text(b"IPv4 multicast"),
-        OptionKind::Ipv4SdEndpoint => text(b"IPv4 SD endpoint"),
-        OptionKind::Ipv6Endpoint => text(b"IPv6 endpoint"),
-        OptionKind::Ipv6Multicast => text(b"IPv6 multicast"),
-        OptionKind::Ipv6SdEndpoint => text(b"IPv6 SD endpoint"),
-        OptionKind::Unknown(code) => {
-            text(b"unknown type ");
-            coded(code as u64, 2);
+fn family(address: IpAddress) {
+    match address {
+        IpAddress::V4(_) => text(b"IPv4 "),
+        IpAddress::V6(_, _, _, _) => text(b"IPv6 "),
+    }
+}
+
+fn role_word(role: Role) {
+    match role {
+        Role::Endpoint => text(b"endpoint "),
+        Role::Multicast => text(b"multicast "),
+        Role::SdEndpoint => text(b"SD endpoint "),
+    }
+}
+
+// The two halves of a word of an address.
+fn high(n: u32) -> u64 {
+    (n / 65536) as u64
+}
+
+fn low(n: u32) -> u64 {
+    (n % 65536) as u64
+}
+
+fn address(address: IpAddress) {
+    match address {
+        IpAddress::V4(a) => told(
+            b"%0d.%1d.%2d.%3d",
+            [high(a) / 256, high(a) % 256, low(a) / 256, low(a) % 256],
+        ),
+        IpAddress::V6(a, b, c, d) => {
+            told(b"%0x:%1x:%2x:%3x:", [high(a), low(a), high(b), low(b)]);
+            told(b"%0x:%1x:%2x:%3x", [high(c), low(c), high(d), low(d)]);
         }
     }
 }
 
-// One byte of a dotted address, behind its separator.
-fn dotted_byte(separator: &[u8], b: u8) {
-    named(separator, b as usize);
-}
-
-// Two bytes of a grouped address, behind their separator.
-fn group(separator: &[u8], high: u8, low: u8) {
-    text(separator);
-    io::print_hex(STDOUT_FILENO, big_endian::be16(high, low) as u64, 1);
-}
-
-// An address of four or sixteen bytes.
-fn address(s: &[u8]) {
-    if s.len() == 4 {
-        dotted_byte(b" ", s[0]);
-        dotted_byte(b".", s[1]);
-        dotted_byte(b".", s[2]);
-        dotted_byte(b".", s[3]);
-    }
-    if s.len() == 16 {
-        group(b" ", s[0], s[1]);
-        group(b":", s[2], s[3]);
-        group(b":", s[4], s[5]);
-        group(b":", s[6], s[7]);
-        group(b":", s[8], s[9]);
-        group(b":", s[10], s[11]);
-        group(b":", s[12], s[13]);
-        group(b":", s[14], s[15]);
+fn protocol(code: u8) {
+    match code {
+        0x06 => text(b", TCP"),
+        0x11 => text(b", UDP"),
+        _ => named(b", protocol ", code as usize),
     }
 }
 
-// A field that only some kinds have: nothing is shown where the kind has none.
-fn protocol(answer: ByteAnswer) {
-    match answer {
-        ByteAnswer::Good(p) => match p {
-            0x06 => text(b", TCP"),
-            0x11 => text(b", UDP"),
-            _ => named(b", protocol ", p as usize),
-        },
-        ByteAnswer::Refused(_) => {}
-    }
-}
-
-fn word(name: &[u8], answer: WordAnswer) {
-    match answer {
-        WordAnswer::Good(n) => named(name, n as usize),
-        WordAnswer::Refused(_) => {}
-    }
-}
-
-fn unknown(answer: SizeAnswer, discardable: bool) {
-    match answer {
-        SizeAnswer::Good(size) => {
-            named(b", bytes after the first ", size);
-            yes_or_no(b", may be discarded ", discardable);
+// An option in a few words: what it is, and where it points.
+fn brief(option: SdOption) {
+    match option {
+        SdOption::Configuration { first: _ } => text(b"configuration"),
+        SdOption::LoadBalancing {
+            first: _,
+            priority,
+            weight,
+        } => told(
+            b"load balancing, priority %0d, weight %1d",
+            [priority as u64, weight as u64, 0, 0],
+        ),
+        SdOption::Address {
+            role,
+            first: _,
+            address: a,
+            reserved: _,
+            protocol: p,
+            port,
+        } => {
+            family(a);
+            role_word(role);
+            address(a);
+            protocol(p);
+            named(b", port ", port as usize);
         }
-        SizeAnswer::Refused(_) => {}
+        SdOption::Unknown { code, first: _ } => told(b"unknown type %02", [code as u64, 0, 0, 0]),
     }
 }
 
-// The items of a configuration option, each on a line; none of another kind's.
+// The items of a configuration string, each on a line.
 fn items(string: &[u8]) {
     let mut at: usize = 0;
     let mut turns: usize = 0;
     while turns < 1400 {
         let answer = config_string::next_item(string, at);
-        let ItemAnswer::Item { next } = answer else {
+        let Count::Good(next) = answer else {
             return;
         };
-        text(b"        item ");
+        text(b"  item ");
         bytes(config_string::item_part(string, at));
         text(b"\n");
         at = next;
@@ -111,23 +106,57 @@ fn items(string: &[u8]) {
     }
 }
 
-// The option in front of `s`, on a line of its own, and its items behind it.
-fn option(ordinal: usize, head: OptionHead, s: &[u8]) {
-    text(b"    option ");
-    number(ordinal);
-    text(b": ");
-    kind_word(kind_of(head.code));
-    address(sd_field::address(s));
-    protocol(sd_field::protocol(s));
-    word(b", port ", sd_field::port(s));
-    word(b", priority ", sd_field::priority(s));
-    word(b", weight ", sd_field::weight(s));
-    unknown(sd_field::unknown_size(s), head.discardable);
-    text(b"\n");
-    items(sd_field::string(s));
+// What stands behind them in the list; `rest` are the option's bytes after its first.
+fn details(option: SdOption, rest: &[u8]) {
+    match option {
+        SdOption::Configuration { first: _ } => {
+            text(b"\n");
+            items(rest);
+        }
+        SdOption::Unknown { code: _, first } => {
+            named(b", bytes after the first ", rest.len());
+            yes_or_no(b", may be discarded ", first.discardable);
+            text(b"\n");
+        }
+        _ => text(b"\n"),
+    }
 }
 
-// The options of a run, by its cursor.
+// An option of a run, by its number and where it stands in the options part: the number, and a few words.
+fn mentioned(number: usize, options: &[u8], offset: Offset) {
+    let answer = sd_field::read_fields(sd_index::option_at(options, offset));
+    let FieldsAnswer::Good { option, size: _ } = answer else {
+        return;
+    };
+    named(b"option ", number);
+    text(b" (");
+    brief(option);
+    text(b")");
+}
+
+// An option of the list, by the same: the number, and all that it holds.
+fn listed(number: usize, options: &[u8], offset: Offset) {
+    let s = sd_index::option_at(options, offset);
+    let answer = sd_field::read_fields(s);
+    let FieldsAnswer::Good { option, size: _ } = answer else {
+        return;
+    };
+    named(b"option ", number);
+    text(b": ");
+    brief(option);
+    details(option, sd_field::option_rest(s));
+}
+
+// What stands in front of an option of a run: the first, or a later one.
+fn mark(turns: usize) {
+    if turns == 0 {
+        text(b": ");
+    } else {
+        text(b", ");
+    }
+}
+
+// The options of a run, by its cursor: their numbers, and each in a few words.
 pub(crate) fn run(options: &[u8], table: &[u16], count: usize, start: RunCursor) {
     let mut cursor = start;
     let mut turns: usize = 0;
@@ -139,11 +168,23 @@ pub(crate) fn run(options: &[u8], table: &[u16], count: usize, start: RunCursor)
         let FoundAnswer::Good(found) = answer else {
             return;
         };
-        option(
-            next.0,
-            found.head,
-            sd_index::option_at(options, found.offset),
-        );
+        mark(turns);
+        let offset = found.offset;
+        mentioned(next.0, options, offset);
         turns += 1;
+    }
+}
+
+// All options, whether an entry points at them or not, each with its number and all that it holds.
+pub(crate) fn all(options: &[u8], table: &[u16], count: usize) {
+    let mut place: usize = 0;
+    while place < count {
+        let answer = sd_index::look_up(options, table, count, Ordinal(place));
+        let FoundAnswer::Good(found) = answer else {
+            return;
+        };
+        let offset = found.offset;
+        listed(place, options, offset);
+        place += 1;
     }
 }

@@ -1,64 +1,68 @@
 // A payload, or a message with its header: what is in it, or why it is refused.
 use crate::entries;
+use crate::header;
+use crate::options;
+use crate::told::told;
 use crate::words::refused;
-use print::named;
 use print::text;
 use print::yes_or_no;
 use sd_index::SLOTS;
-use sd_index::Settings;
+use sd_option::Settings;
 use sd_payload::PayloadAnswer;
 use sd_payload::SdHeaderFlags;
 
-// A message's header.
-const HEADER_LEN: usize = 16;
-
-fn flags(f: SdHeaderFlags) {
-    yes_or_no(b"flags: reboot ", f.reboot);
-    yes_or_no(b", unicast ", f.unicast);
-    yes_or_no(
-        b", explicit initial data control ",
-        f.explicit_initial_data_control,
-    );
-    text(b"\n");
-}
-
-// The answer to a payload whose table was filled.
-fn answered(answer: PayloadAnswer, payload: &[u8], table: &[u16]) {
+// The line of the answer to a payload of so many bytes.
+fn answered(answer: PayloadAnswer, length: usize) {
     match answer {
-        PayloadAnswer::Good(p) => {
-            named(b"accepted: bytes ", payload.len());
-            named(b", entries ", p.entries);
-            named(b", options ", p.options);
-            text(b"\n");
-            flags(p.flags);
-            let entries = sd_payload::entries_part(payload, answer);
-            let options = sd_payload::options_part(payload, answer);
-            entries::all(entries, options, table, p.options);
-        }
+        PayloadAnswer::Good(payload) => told(
+            b"accepted: bytes %0d, entries %1d, options %2d\n",
+            [
+                length as u64,
+                payload.entries as u64,
+                payload.options as u64,
+                0,
+            ],
+        ),
         PayloadAnswer::Refused(refusal) => refused(refusal),
     }
 }
 
-// Settings of a hub that discards nothing.
-fn settings() -> Settings {
-    Settings {
-        discard_unknown_option: false,
-    }
+fn flags(flags: SdHeaderFlags) {
+    yes_or_no(b"flags: reboot ", flags.reboot);
+    yes_or_no(b", unicast ", flags.unicast);
+    yes_or_no(
+        b", explicit initial data control ",
+        flags.explicit_initial_data_control,
+    );
+    text(b"\n");
 }
 
-pub(crate) fn show(payload: &[u8]) {
-    let mut table = [0u16; SLOTS];
-    let answer = sd_payload::read_payload(settings(), payload, &mut table);
-    answered(answer, payload, &table);
-}
-
-// A message: the same behind its header. One that is accepted has 16 bytes of header.
-pub(crate) fn show_message(message: &[u8]) {
-    let mut table = [0u16; SLOTS];
-    let answer = sd_payload::read_message(settings(), message, &mut table);
-    if message.len() < HEADER_LEN {
-        answered(answer, message, &table);
+// What is in a payload that was read with this answer, and whose table was filled; nothing after a refusal.
+fn contents(answer: PayloadAnswer, bytes: &[u8], table: &[u16]) {
+    let PayloadAnswer::Good(payload) = answer else {
         return;
-    }
-    answered(answer, &message[HEADER_LEN..], &table);
+    };
+    let f = payload.flags;
+    flags(f);
+    let entries = sd_payload::entries_part(bytes, answer);
+    let options = sd_payload::options_part(bytes, answer);
+    entries::all(entries, options, table, payload.options);
+    options::all(options, table, payload.options);
+}
+
+pub(crate) fn show(settings: Settings, payload: &[u8]) {
+    let mut table = [0u16; SLOTS];
+    let answer = sd_payload::read_payload(settings, payload, &mut table);
+    answered(answer, payload.len());
+    contents(answer, payload, &table);
+}
+
+// A message: the same behind its header.
+pub(crate) fn show_message(settings: Settings, message: &[u8]) {
+    let mut table = [0u16; SLOTS];
+    let answer = sd_payload::read_message(settings, message, &mut table);
+    let payload = header::behind(message);
+    answered(answer, payload.len());
+    header::header(message);
+    contents(answer, payload, &table);
 }

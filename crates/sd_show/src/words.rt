@@ -1,152 +1,293 @@
-// A refusal in words: document 01's number, and its values by name.
-use print::named;
-use print::named_code;
+// A refusal in words: the rules' number, and its values with what they are. The Rust crate has the same words (bindings/rust/src/refusal.rs).
+use crate::told::told;
 use print::text;
 use refusal::LengthSource;
+use refusal::PLACES;
 use refusal::Refusal;
 use refusal::StringError;
-
-fn source(s: LengthSource) {
-    match s {
-        LengthSource::Slice => text(b" (the bytes that are left)"),
-        LengthSource::OptionLength => text(b" (by the option's own length field)"),
-    }
-}
+use refusal::numbers_of;
 
 // What is wrong with a configuration string. Places count from the string's first byte.
-fn string_words(error: StringError) {
+fn string_words(error: StringError, values: [u64; PLACES]) {
     match error {
-        StringError::MissingTerminator => text(b"it ends without its closing 0"),
+        StringError::MissingTerminator => text(b"it ends without a closing zero byte"),
         StringError::ItemLengthExceedsRemaining {
-            item_offset,
-            item_length,
-            remaining,
-        } => {
-            named(b"the item at ", item_offset);
-            named(b" says it has ", item_length as usize);
-            named(b" bytes; bytes left: ", remaining);
-        }
-        StringError::TrailingDataAfterTerminator { terminator_offset } => named(
-            b"there are bytes behind the closing 0 at ",
-            terminator_offset,
+            item_offset: _,
+            item_length: _,
+            remaining: _,
+        } => told(
+            b"the item at byte %1d says that %2d bytes follow, but %3d are left",
+            values,
         ),
-        StringError::EmptyKey { item_offset } => named(b"empty key in the item at ", item_offset),
+        StringError::TrailingDataAfterTerminator {
+            terminator_offset: _,
+        } => told(
+            b"bytes follow the closing zero byte, which is byte %1d",
+            values,
+        ),
+        StringError::EmptyKey { item_offset: _ } => told(
+            b"the item at byte %1d has nothing before its '='",
+            values,
+        ),
         StringError::InvalidKeyByte {
-            item_offset,
-            byte_offset,
-            value,
-        } => {
-            named_code(b"byte ", value as u64, 2);
-            named(b" may not stand in a key: place ", byte_offset);
-            named(b" of the item at ", item_offset);
-        }
-        StringError::KeyContainsOnlyWhitespace { item_offset } => named(
-            b"only spaces in the key of the item at ",
-            item_offset,
+            item_offset: _,
+            byte_offset: _,
+            value: _,
+        } => told(
+            b"in the item at byte %1d, byte %2d of the key is %32; keys are 0x20 to 0x7e",
+            values,
+        ),
+        StringError::KeyContainsOnlyWhitespace { item_offset: _ } => told(
+            b"the item at byte %1d has a key of spaces only",
+            values,
         ),
     }
 }
 
-// The run of an entry that leaves the list of options.
-fn run_words(run: u8, start: u8, count: u8, options: usize) {
-    named(b"12: run ", run as usize);
-    named(
-        b" of an entry leaves the list of options: start ",
-        start as usize,
-    );
-    named(b", count ", count as usize);
-    named(b", options in the payload ", options);
+// An option's length that does not fit, by what gave it.
+fn length_words(source: LengthSource, values: [u64; PLACES]) {
+    match source {
+        LengthSource::Slice => told(b"an option needs %0d bytes, but only %1d are left", values),
+        LengthSource::OptionLength => told(
+            b"an option's length field says %1d, but an option of its type has %0d",
+            values,
+        ),
+    }
 }
 
-fn words(refusal: Refusal) {
+// The families of refusals, each with its own and nothing for others. The sizes of a payload: 1 to 6.
+fn size_words(refusal: Refusal, values: [u64; PLACES]) {
     match refusal {
-        Refusal::UnexpectedEndOfSlice(needed) => named(
-            b"1: the bytes end too soon; bytes needed: ",
-            needed,
+        Refusal::UnexpectedEndOfSlice(_) => told(
+            b"the bytes end too soon: at least %0d are needed",
+            values,
         ),
-        Refusal::EntriesLengthTooLarge(length) => named(
-            b"2: the entries part is too long; its length: ",
-            length as usize,
+        Refusal::EntriesLengthTooLarge(_) => told(
+            b"the payload says that its entries take %0d bytes; at most 1388 fit",
+            values,
         ),
-        Refusal::EntriesLengthUneven(length) => named(
-            b"3: the entries part is no whole number of entries of 16 bytes; its length: ",
-            length as usize,
+        Refusal::EntriesLengthUneven(_) => told(
+            b"the payload says that its entries take %0d bytes; an entry takes 16, and this is no multiple of it",
+            values,
         ),
-        Refusal::OptionsLengthTooLarge(length) => named(
-            b"4: the options part is too long (1388 at most); its length: ",
-            length as usize,
+        Refusal::OptionsLengthTooLarge(_) => told(
+            b"the payload says that its options take %0d bytes; at most 1388 fit",
+            values,
         ),
-        Refusal::PayloadTooLarge(length) => named(
-            b"5: the payload is too long (1400 at most); its length: ",
-            length as usize,
+        Refusal::PayloadTooLarge(_) => told(
+            b"by its own length fields the payload takes %0d bytes; at most 1400 are allowed",
+            values,
         ),
-        Refusal::PayloadLengthMismatch { expected, actual } => {
-            named(
-                b"6: the payload's length is not what its own length fields say; expected ",
-                expected,
-            );
-            named(b", actual ", actual);
-        }
+        Refusal::PayloadLengthMismatch {
+            expected: _,
+            actual: _,
+        } => told(
+            b"by its own length fields the payload takes %0d bytes, but %1d were handed in",
+            values,
+        ),
+        _ => {}
+    }
+}
+
+// Its options and entries, and an index: 7 to 13.
+fn part_words(refusal: Refusal, values: [u64; PLACES]) {
+    match refusal {
         Refusal::OptionLength {
-            needed,
-            had,
-            source: s,
-        } => {
-            named(b"7: an option's length does not fit; needed ", needed);
-            named(b", had ", had);
-            source(s);
-        }
-        Refusal::OptionLengthZero => text(b"8: an option of length 0"),
+            needed: _,
+            had: _,
+            source,
+        } => length_words(source, values),
+        Refusal::OptionLengthZero => text(b"an option's length field is 0; it is at least 1"),
         Refusal::ConfigurationString(error) => {
-            text(b"9: a configuration string is wrong: ");
-            string_words(error);
+            text(b"a configuration string is wrong: ");
+            string_words(error, values);
         }
-        Refusal::UnknownOption(code) => named_code(
-            b"10: an option of an unknown type that may not be discarded; type ",
-            code as u64,
-            2,
+        Refusal::UnknownOption(_) => told(
+            b"an option has the unknown type %02 and may not be discarded; the discard setting would pass it",
+            values,
         ),
-        Refusal::UnknownEntry(code) => named_code(
-            b"11: an entry of an unknown type; type ",
-            code as u64,
-            2,
+        Refusal::UnknownEntry(_) => told(
+            b"an entry has the unknown type %02; known are 0x00, 0x01, 0x06 and 0x07",
+            values,
         ),
         Refusal::RunOutOfBounds {
-            run,
-            start,
-            count,
-            options,
-        } => run_words(run, start, count, options),
-        Refusal::IndexTooLarge(length) => named(
-            b"13: the options part is too long (1388 at most); its length: ",
-            length,
+            run: _,
+            start: _,
+            count: _,
+            options: _,
+        } => told(
+            b"run %0d of an entry starts at option %1d, counted from 0, and takes %2d, but the payload has %3d",
+            values,
         ),
-        Refusal::MessageId(id) => named_code(
-            b"14: not a service discovery message (0xffff8100); message id ",
-            id as u64,
-            8,
+        Refusal::IndexTooLarge(_) => told(
+            b"%0d bytes of options were handed in for an index; at most 1388 fit",
+            values,
         ),
-        Refusal::ClientId(client) => named_code(b"15: the client id is not 0: ", client as u64, 4),
-        Refusal::SessionZero => text(b"16: the session id is 0"),
-        Refusal::InterfaceVersion(version) => named(
-            b"17: the interface version is not 1: ",
-            version as usize,
+        _ => {}
+    }
+}
+
+// A message's header: 14 to 19.
+fn header_words(refusal: Refusal, values: [u64; PLACES]) {
+    match refusal {
+        Refusal::MessageId(_) => told(
+            b"the message id is %08; service discovery has 0xffff8100",
+            values,
         ),
-        Refusal::MessageType(code) => named_code(
-            b"18: the message type is not a notification (0x02): ",
-            code as u64,
-            2,
+        Refusal::ClientId(_) => told(b"the client id is %04; service discovery has 0", values),
+        Refusal::SessionZero => text(b"the session id is 0; service discovery counts from 1"),
+        Refusal::InterfaceVersion(_) => told(
+            b"the interface version is %0d; service discovery has 1",
+            values,
         ),
-        Refusal::ReturnCode(code) => named_code(b"19: the return code is not 0: ", code as u64, 2),
-        Refusal::NothingThere => text(b"20: nothing there"),
-        Refusal::TableMisfit => text(b"21: the table does not fit these bytes"),
-        Refusal::FewSlots(slots) => named(b"22: the table has too few slots (347 needed): ", slots),
+        Refusal::MessageType(_) => told(
+            b"the message type is %02; service discovery has 0x02, a notification",
+            values,
+        ),
+        Refusal::ReturnCode(_) => told(
+            b"the return code is %02; service discovery has 0x00",
+            values,
+        ),
+        _ => {}
+    }
+}
+
+// Lookup, and a table: 20 to 22.
+fn lookup_words(refusal: Refusal, values: [u64; PLACES]) {
+    match refusal {
+        Refusal::NothingThere => text(b"there is no option or entry at this place"),
+        Refusal::TableMisfit => text(
+            b"the offset table does not belong to these options: it is another payload's, or was changed",
+        ),
+        Refusal::FewSlots(_) => told(
+            b"the lent offset table has %0d slots; 347 are needed",
+            values,
+        ),
+        _ => {}
+    }
+}
+
+// A segment: 30 to 33.
+fn segment_words(refusal: Refusal, values: [u64; PLACES]) {
+    match refusal {
+        Refusal::NotASegment => text(
+            b"not one TP segment: under 20 bytes, or a length field that is not the byte count less 8, or a protocol version other than 1, or no TP message type",
+        ),
+        Refusal::SegmentTooBig {
+            offset: _,
+            length: _,
+            max: _,
+        } => told(
+            b"a segment of %1d bytes at offset %0d passes the stream's payload limit of %2d",
+            values,
+        ),
+        Refusal::UnalignedTpPayloadLen {
+            offset: _,
+            length: _,
+        } => told(
+            b"a segment of %1d bytes at offset %0d says that more follows; its length is then a multiple of 16",
+            values,
+        ),
+        Refusal::ConflictingEnd {
+            previous: _,
+            new: _,
+        } => told(
+            b"a segment ends at %1d, but the report's end is known to be %0d",
+            values,
+        ),
+        _ => {}
+    }
+}
+
+// A stream of segments: 34 to 38.
+fn stream_words(refusal: Refusal, values: [u64; PLACES]) {
+    match refusal {
+        Refusal::BufferTooShort(_) => told(
+            b"the lent buffer is too short: %0d bytes are needed",
+            values,
+        ),
+        Refusal::RangesFull => text(
+            b"too many gaps: 32 separate ranges are held, and this segment joins none of them",
+        ),
+        Refusal::LimitTooLarge(_) => told(
+            b"a payload limit of %0d was asked for; at most 65520 is possible",
+            values,
+        ),
+        Refusal::NotComplete => text(b"the report is not complete"),
+        Refusal::MalformedState => text(
+            b"these words are no state of a stream: they come from elsewhere, or were changed; begin the stream anew",
+        ),
+        _ => {}
+    }
+}
+
+// Any refusal, with its values in the rules' order; each is named here, so that a new one is missed.
+fn words(refusal: Refusal, values: [u64; PLACES]) {
+    match refusal {
+        Refusal::UnexpectedEndOfSlice(_)
+        | Refusal::EntriesLengthTooLarge(_)
+        | Refusal::EntriesLengthUneven(_)
+        | Refusal::OptionsLengthTooLarge(_)
+        | Refusal::PayloadTooLarge(_)
+        | Refusal::PayloadLengthMismatch {
+            expected: _,
+            actual: _,
+        } => size_words(refusal, values),
+        Refusal::OptionLength {
+            needed: _,
+            had: _,
+            source: _,
+        }
+        | Refusal::OptionLengthZero
+        | Refusal::ConfigurationString(_)
+        | Refusal::UnknownOption(_)
+        | Refusal::UnknownEntry(_)
+        | Refusal::RunOutOfBounds {
+            run: _,
+            start: _,
+            count: _,
+            options: _,
+        }
+        | Refusal::IndexTooLarge(_) => part_words(refusal, values),
+        Refusal::MessageId(_)
+        | Refusal::ClientId(_)
+        | Refusal::SessionZero
+        | Refusal::InterfaceVersion(_)
+        | Refusal::MessageType(_)
+        | Refusal::ReturnCode(_) => header_words(refusal, values),
+        Refusal::NothingThere | Refusal::TableMisfit | Refusal::FewSlots(_) => lookup_words(
+            refusal,
+            values,
+        ),
+        Refusal::NotASegment
+        | Refusal::SegmentTooBig {
+            offset: _,
+            length: _,
+            max: _,
+        }
+        | Refusal::UnalignedTpPayloadLen {
+            offset: _,
+            length: _,
+        }
+        | Refusal::ConflictingEnd {
+            previous: _,
+            new: _,
+        } => segment_words(refusal, values),
+        Refusal::BufferTooShort(_)
+        | Refusal::RangesFull
+        | Refusal::LimitTooLarge(_)
+        | Refusal::NotComplete
+        | Refusal::MalformedState => stream_words(refusal, values),
     }
 }
 
 // The line of a refusal.
 pub(crate) fn refused(refusal: Refusal) {
+    let said = numbers_of(refusal);
+    let values = said.values;
     text(b"refused, ");
-    words(refusal);
+    io::print_decimal(libc::STDOUT_FILENO, said.number);
+    text(b": ");
+    words(refusal, values);
     text(b"\n");
 }
