@@ -84,11 +84,11 @@ fn check_item(at: usize, size: u8, rest: &[u8]) -> Verdict
 {
     let n = size as usize;
     if rest.len() < n {
-        return refuse(StringError::ItemLengthExceedsRemaining {
+        return Verdict::Refused(Refusal::ConfigurationString(StringError::ItemLengthExceedsRemaining {
             item_offset: at,
             item_length: size,
             remaining: rest.len(),
-        });
+        }));
     }
     check_key(at, &rest[..n])
 }

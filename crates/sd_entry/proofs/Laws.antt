@@ -1,16 +1,16 @@
 -- What the proofs of this crate's functions cite: how the definitions of one entry go, one step at a time. Assumes nothing.
 use Prim.Native.Nat.{ℕ, _+_, _*_, _/_, _%_, _-_, _≤_, _<_}
 use mathlib.Core.Path.{_≡_, refl, sym, ap, _∙_}
-use mathlib.Core.Bool.{Bool, true, false}
+use mathlib.Core.Bool.{Bool, true, false, not}
 use mathlib.Core.Logic.{_⊎_, inl, inr, ⊎-elim}
 use mathlib.Core.List.{List}
 use native.Mathlib.Omega.{arith}
 use lib.ListN.{length, take, drop, getD, length-take, length-drop}
 use lib.Seq.{take-all}
-use lib.Dec.{eqb}
-use borrow.Author.Tests.{ltb-false, eqb-true, eqb-false, lt-ltb, le-ltb, le-leb, lt-leb, ne-eqb}
+use lib.Dec.{eqb, leb}
+use borrow.Author.Tests.{ltb-false, eqb-true, eqb-false, lt-ltb, le-ltb, le-leb, lt-leb, eq-eqb, ne-eqb}
 use Rattle.numbers.specs.Refusals.{Refusal, unexpected-end, unknown-entry, run-out-of-bounds}
-use Rattle.numbers.specs.Answers.{Answer, accepted, refused, Verdict, _>>=_, _>>_, given, verdict}
+use Rattle.numbers.specs.Answers.{Answer, accepted, refused, Verdict, pass, _>>=_, _>>_, given, verdict}
 use Rattle.numbers.specs.Bytes.{at16, at24, at32}
 use Rattle.numbers.proofs.AnswerLaws.{when-hit, when-pass, when-accepted, bind-pass, then-pass}
 use Rattle.sd_format.specs.Sequences.{next-at, behind, stands}
@@ -130,9 +130,24 @@ head-field-said {e} this = ap (λ (x : SdEntry). head-said (head-field x)) (sym 
 
 -- ---- the runs' rule
 
-pub run-out : (run n start count : ℕ) → (count ≡ 0 → ⊥) → n < start + count → judge-run run n start count ≡ refused (run-out-of-bounds run start count n)
-unfolding judge-run inside
-run-out run n start count some past = when-hit _ _ _ (rw (ne-eqb count 0 some, lt-leb (start + count) n past))
+-- a run of no option lies inside any list, any other where it ends there
+module _ (n start count : ℕ) where
+  pub run-empty : count ≡ 0 → inside n start count ≡ true
+  unfolding inside
+  run-empty e = rw (eq-eqb count 0 e)
+
+  pub run-held : (count ≡ 0 → ⊥) → inside n start count ≡ leb (start + count) n
+  unfolding inside
+  run-held e = rw (ne-eqb count 0 e)
+
+module _ (run n start count : ℕ) where
+  pub run-in : inside n start count ≡ true → judge-run run n start count ≡ pass
+  unfolding judge-run
+  run-in e = when-pass _ _ _ (ap not e)
+
+  pub run-out : inside n start count ≡ false → judge-run run n start count ≡ refused (run-out-of-bounds run start count n)
+  unfolding judge-run
+  run-out e = when-hit _ _ _ (ap not e)
 
 -- run 1's verdict is that of both where it refuses; where it passes, run 2's is
 module _ (n start1 count1 start2 count2 : ℕ) {v : judged.Verdict} (first : verdict-said v ≡ judge-run 1 n start1 count1) where

@@ -6,16 +6,23 @@ use refusal::Verdict;
 ghost use mathlib.Core.Path.{_≡_};
 ghost use Rattle.numbers.specs.Answers.{verdict};
 ghost use Rattle.refusal.specs.Said.{verdict-said};
-ghost use Rattle.sd_format.specs.Entries.{judge-run, judge-runs, placed-entry};
+ghost use Rattle.sd_format.specs.Entries.{inside, judge-run, judge-runs, placed-entry};
+
+// Whether a run lies inside a list of so many options.
+fn run_inside(start: u8, count: u8, options: usize) -> bool
+    ensures { λ r. ⌜ r ≡ inside options start count ⌝ }
+{
+    if count == 0 {
+        return true;
+    }
+    start as usize + count as usize <= options
+}
 
 // The verdict on a run, 1 or 2, beside so many options: 12 where it leaves the list.
 fn judge_run(run: u8, start: u8, count: u8, options: usize) -> Verdict
     ensures { λ r. ⌜ verdict-said r ≡ judge-run run options start count ⌝ }
 {
-    if count == 0 {
-        return Verdict::Passed;
-    }
-    if start as usize + count as usize <= options {
+    if run_inside(start, count, options) {
         return Verdict::Passed;
     }
     Verdict::Refused(Refusal::RunOutOfBounds {

@@ -44,7 +44,11 @@ fn sweep(settings: Settings, options: &[u8], table: &mut [u16]) -> Count
         let Verdict::Passed = permission else {
             continue; // the first that may not stand counts
         };
-        permission = permission_of(settings, head);
+        let verdict = permission_of(settings, head);
+        let Verdict::Refused(_) = verdict else {
+            continue;
+        };
+        permission = verdict;
     }
     let Verdict::Passed = permission else {
         return Count::Refused(permission.refusal());

@@ -10,7 +10,7 @@ use Rattle.config_string.proofs.check_item.Tie as tie
 
 returns : tie.Need-returns
 unfolding judge-item
-returns c = c .refuse .ensures ∙ sym (when-hit _ _ _ (lt-ltb _ _ (c .before .if1 .taken)))
+returns c = sym (when-hit _ _ _ (lt-ltb _ _ (c .if1 .taken)))
 
 slice-aggregate-check-key : tie.Need-slice-aggregate-check-key
 slice-aggregate-check-key c =
@@ -24,4 +24,4 @@ returns-2 c = c .check-key .ensures ∙ sym (when-pass _ _ _ (le-ltb _ _ (c .bef
 
 pub check-item-spec : {M : Type 1} → statement M
 check-item-spec =
-    tie.close (tie.spec (λ c κs. search needs) returns slice-aggregate-check-key (λ c κs. search needs) returns-2)
+    tie.close (tie.spec returns slice-aggregate-check-key (λ c κs. search needs) returns-2)

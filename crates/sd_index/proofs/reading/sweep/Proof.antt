@@ -71,8 +71,8 @@ whole : (c : tie.After-enum-told2 Inv-loop μ-loop)
     → Found scanned (rest (c .before .before .before .before .before .before .before .before .before .before)) (c .before .before .before .before .answer .given .0 .0)
 whole c = let scan = c .before .before in string-passed _ _ (here (scan .before)) _ (string-told scan) (c .enum-told2 .given .1)
 
-add-t11-2 : tie.Need-add-t11-2 Inv-loop μ-loop
-add-t11-2 c =
+add-t12-2 : tie.Need-add-t12-2 Inv-loop μ-loop
+add-t12-2 c =
     let read = c .before .before .before .before .before .before .before in
     let turn = read .before .before .before .before .before .before .before .before in
     omega (arith, turn-within (turn .before .before .loop .inv) (turn .if1 .taken) _ (whole read))
@@ -90,27 +90,42 @@ loop-again c =
     (bad-stays _ (ap verdict-said (c .enum-told5 .given .1)))
 
 loop-less-2 : tie.Need-loop-less-2 Inv-loop μ-loop
-loop-less-2 c = let t = whole (c .before .before .before .before .before .before .before .before .before .before) in omega arith
+loop-less-2 c = let t = whole (c .before .before .before .before .before .before .before .before .before .before .before .before) in omega arith
 
--- all may stand so far
+-- all may stand so far, and so may this one
 loop-again-2 : tie.Need-loop-again-2 Inv-loop μ-loop
 loop-again-2 c =
-    let slot = c .before .before .before .before .before .before .before .before in
+    let asked = c .before .before in
+    let slot = asked .before .before .before .before .before .before .before .before in
+    let read = slot .before .before in
+    let turn = read .before .before .before .before .before .before .before .before in
+    let still = ap verdict-said (asked .before .enum-told4 .given .1) in
+    turn-goes (turn .before .before .loop .inv) (turn .if1 .taken) _ (whole read) (omega arith) (omega arith) _ (slot .write-slot .ensures) _
+    (good-asks still (still ∙ sym (ap verdict-said (c .enum-told7 .given .1)) ∙ asked .permission-of .ensures))
+
+loop-less-3 : tie.Need-loop-less-3 Inv-loop μ-loop
+loop-less-3 c = let t = whole (c .before .before .before .before .before .before .before .before .before .before .before .before) in omega arith
+
+-- all may stand so far, and this one may not
+loop-again-3 : tie.Need-loop-again-3 Inv-loop μ-loop
+loop-again-3 c =
+    let asked = c .before .before in
+    let slot = asked .before .before .before .before .before .before .before .before in
     let read = slot .before .before in
     let turn = read .before .before .before .before .before .before .before .before in
     turn-goes (turn .before .before .loop .inv) (turn .if1 .taken) _ (whole read) (omega arith) (omega arith) _ (slot .write-slot .ensures) _
-    (good-asks (ap verdict-said (c .before .enum-told4 .given .1)) (c .permission-of .ensures))
+    (good-asks (ap verdict-said (asked .before .enum-told4 .given .1)) (asked .permission-of .ensures))
 
 returns-3 : tie.Need-returns-3 Inv-loop μ-loop
 returns-3 c =
     let turn = c .before .before .before in
     turn-refuses (turn .before .before .loop .inv) (turn .if1 .left) (c .refusal3 .result)
-    (ap verdict-said (c .before .enum-told7 .given .1) ∙ ap (λ (r : Refusal). refused (said r)) (sym (c .refusal3 .ensures ∙ ap verdict-refusal (c .before .enum-told7 .given .1))))
+    (ap verdict-said (c .before .enum-told9 .given .1) ∙ ap (λ (r : Refusal). refused (said r)) (sym (c .refusal3 .ensures ∙ ap verdict-refusal (c .before .enum-told9 .given .1))))
 
 returns-4 : tie.Need-returns-4 Inv-loop μ-loop
 returns-4 c =
     let turn = c .before .before in
-    turn-ends (turn .before .before .loop .inv) (turn .if1 .left) (ap verdict-said (c .enum-told6 .given .1))
+    turn-ends (turn .before .before .loop .inv) (turn .if1 .left) (ap verdict-said (c .enum-told8 .given .1))
 
 pub sweep-spec : {M : Type 1} → statement M
 sweep-spec =
@@ -134,14 +149,18 @@ sweep-spec =
     returns-2
     (λ c κs. (omega arith, omega arith))
     (λ c. omega arith)
-    add-t11-2
+    add-t12-2
     (λ c. search needs)
     (λ c. search needs)
     loop-less
     loop-again
     (λ c κs. search needs)
+    (λ c. search needs)
+    (λ c. search needs)
     loop-less-2
     loop-again-2
+    loop-less-3
+    loop-again-3
     (λ c. search needs)
     (λ c. search needs)
     (λ c κs. search needs)
