@@ -136,10 +136,12 @@ module _ (g : Settings) (s tab tab′ : List ℕ) (r : PayloadAnswer) (b : Bytes
         rw (count, h .slots, es, os) as-laid-out
 
   pub of-the-code : OfTheCode g s tab′ r
+  unfolding given
   of-the-code =
       record {
         exactly = ((λ a. laid-out (a .0) (a .1)), (λ a. good r (summary (a .0)) (answered (a .0) (a .1))));
         after = λ p q e laid. after-it q laid p e;
+        empty = λ q e bytes part is. is ∙ ap (λ (x : PayloadAnswer). handed x s bytes) e;
       }
 
 -- ---- the message

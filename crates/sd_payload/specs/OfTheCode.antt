@@ -3,9 +3,10 @@
 use Prim.Native.Nat.{ℕ}
 use mathlib.Core.Path.{_≡_}
 use mathlib.Core.Logic.{_↔_}
-use mathlib.Core.List.{List, _++_, map}
+use mathlib.Core.List.{List, [], _++_, map}
 use lib.ListN.{length, take, drop, getD}
 use Rattle.numbers.specs.Answers.{accepted, given}
+use Rattle.refusal.specs.declared.Refusal.{Refusal}
 use Rattle.sd_format.specs.Settings.{Settings}
 use Rattle.sd_format.specs.Sequences.{HandsOut, counted}
 use Rattle.sd_format.specs.Options.{First, Opt, configuring, balancing, addressed, unrecognised}
@@ -29,7 +30,7 @@ use Rattle.sd_index.specs.Found.{found-said, look-up-told}
 use Rattle.sd_index.specs.Steps.{OptionStepped, run-of, run-said, RunStepped}
 use Rattle.sd_payload.specs.declared.reading.SdPayload.{SdPayload}
 use Rattle.sd_payload.specs.declared.reading.PayloadAnswer.{PayloadAnswer}
-use Rattle.sd_payload.specs.declared.reading.PayloadAnswer.the-variants.{Good}
+use Rattle.sd_payload.specs.declared.reading.PayloadAnswer.the-variants.{Good, Refused}
 use Rattle.sd_payload.specs.Reads.{flags-laid, payload-said}
 use Rattle.sd_payload.specs.Parts.{handed}
 
@@ -96,6 +97,8 @@ pub record OfTheCode (g : Settings) (s tab : List ℕ) (r : PayloadAnswer) : Typ
   pub after : (p : SdPayload) (q : Payload) → r ≡ Good p → LaidOut g s q
       → (entries options : List ℕ) → entries ≡ handed r s (entries-part s) → options ≡ handed r s (options-part s)
       → AsLaidOut q r (p .options) tab entries options
+  -- after a refusal no bytes are handed out
+  pub empty : (q : Refusal) → r ≡ Refused q → (bytes part : List ℕ) → part ≡ handed r s bytes → part ≡ []
 
 -- a header with a session that is not 0, and a payload that fits the conditions: their layout is `m`
 abbrev pub MessageLaidOut : Settings → List ℕ → Payload → Type 0
