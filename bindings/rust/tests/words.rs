@@ -1,80 +1,39 @@
-//! The words of a refusal here and in `bin/show` (crates/sd_show/src/words.rt) are the same. That file's arms are read as text: an arm is calls
-//! that print a text, or a number in front of, behind or between texts.
+//! The words of a refusal here and in `bin/show` (crates/sd_show/src/words.rt) are the same. That file's arms are read as text: an arm prints its
+//! literals, in which `%` and two characters stand for a value: its place, and `d` for decimal or how many hexadecimal digits.
 
 use std::{fs, path::Path};
 use viaductle::{LenSource, Refusal, SdConfigurationStringError};
 
-/// The next call of one of these names in some code, its arguments, and what follows.
-fn next_call<'a>(code: &'a str, names: &[&'a str]) -> Option<(&'a str, Vec<&'a str>, &'a str)> {
-    let found = |name: &&'a str| {
-        let mut from = 0;
-        while let Some(at) = code[from..].find(&format!("{name}(")) {
-            let at = from + at;
-            if !code[..at].ends_with(|c: char| c == '_' || c.is_alphanumeric()) {
-                return Some((at, *name));
-            }
-            from = at + 1;
-        }
-        None
-    };
-    let (at, name) = names.iter().filter_map(found).min()?;
-    let mut rest = &code[at + name.len() + 1..];
-    let mut arguments = Vec::new();
-    loop {
-        rest = rest.trim_start();
-        if let Some(after) = rest.strip_prefix(')') {
-            return Some((name, arguments, after));
-        }
-        let end = match rest.strip_prefix("b\"") {
-            Some(text) => 3 + text.find('"').unwrap(),
-            None => rest.find([',', ')']).unwrap(),
+/// What some code prints, its numbers as {place of the value} or {place:digits in hexadecimal}.
+fn printed(code: &str) -> String {
+    let literals = code.split("b\"").skip(1);
+    let text: String = literals
+        .map(|rest| rest.split('"').next().unwrap())
+        .collect();
+    let mut pieces = text.split('%');
+    let mut all = pieces.next().unwrap().to_string();
+    for piece in pieces {
+        let (place, form, behind) = (&piece[..1], &piece[1..2], &piece[2..]);
+        all += &match form {
+            "d" => format!("{{{place}}}{behind}"),
+            _ => format!("{{{place}:{form}}}{behind}"),
         };
-        arguments.push(&rest[..end]);
-        rest = rest[end..].trim_start();
-        rest = rest.strip_prefix(',').unwrap_or(rest);
-    }
-}
-
-/// What an arm prints, its numbers as {place of the field} or {place:digits in hexadecimal}.
-fn printed(code: &str, bindings: &[&str]) -> String {
-    let literal = |text: &str| text[2..text.len() - 1].to_string();
-    let place = |number: &str| {
-        let name = number.split_whitespace().next().unwrap();
-        let place = bindings.iter().position(|binding| *binding == name);
-        place.unwrap_or_else(|| panic!("{name} in {code}"))
-    };
-    let mut all = String::new();
-    let mut rest = code;
-    let names = ["text", "named", "named_code", "around", "around_code"];
-    while let Some((name, arguments, after)) = next_call(rest, &names) {
-        all += &literal(arguments[0]);
-        all += &match name {
-            "text" => String::new(),
-            "named" => format!("{{{}}}", place(arguments[1])),
-            "around" => format!("{{{}}}{}", place(arguments[1]), literal(arguments[2])),
-            "named_code" => format!("{{{}:{}}}", place(arguments[1]), arguments[2]),
-            _ => {
-                let number = format!("{{{}:{}}}", place(arguments[1]), arguments[2]);
-                number + &literal(arguments[3])
-            }
-        };
-        rest = after;
     }
     all
 }
 
-/// The arms of a match over this enum: the variant and what is printed.
-fn arms(source: &str, of: &str, given: &[&str]) -> Vec<(String, String)> {
+/// The arms of the matches over this enum that print something: the variant and what is printed.
+fn arms(source: &str, of: &str) -> Vec<(String, String)> {
     let marker = format!("\n        {of}::");
     let mut all = Vec::new();
     for arm in source.split(&marker[..]).skip(1) {
         let arm = arm.split("\n    }\n").next().unwrap();
         let (pattern, code) = arm.split_once("=>").unwrap();
-        let mut words = pattern.split(|c: char| c != '_' && !c.is_alphanumeric());
-        let name = words.next().unwrap();
-        let own: Vec<&str> = words.filter(|word| !word.is_empty()).collect();
-        let bindings = if given.is_empty() { &own } else { given };
-        all.push((name.to_string(), printed(code, bindings)));
+        let name = pattern.split(|c: char| !c.is_alphanumeric()).next();
+        let text = printed(code);
+        if !text.is_empty() {
+            all.push((name.unwrap().to_string(), text));
+        }
     }
     all
 }
@@ -97,6 +56,9 @@ fn said(refusal: Refusal, values: &[u64]) -> String {
     text
 }
 
+/// A value that no text has.
+const WHICH: u64 = 7_777_777;
+
 #[test]
 fn bin_show_says_the_same() {
     let file = Path::new(env!("CARGO_MANIFEST_DIR")).join("../../crates/sd_show/src/words.rt");
@@ -106,6 +68,7 @@ fn bin_show_says_the_same() {
     };
     assert!(source.contains("b\"refused, \"") && source.contains("b\": \""));
 
+    // The first value of 9 is which of the six it is.
     use SdConfigurationStringError::*;
     let string = |error, values: &[u64]| {
         let text = said(Refusal::ConfigurationString(error), values);
@@ -121,26 +84,26 @@ fn bin_show_says_the_same() {
                 item_length: 201,
                 remaining: b,
             },
-            &[4001, 201, 4002],
+            &[WHICH, 4001, 201, 4002],
         ),
         string(
             TrailingDataAfterTerminator {
                 terminator_offset: a,
             },
-            &[4001],
+            &[WHICH, 4001],
         ),
-        string(EmptyKey { item_offset: a }, &[4001]),
+        string(EmptyKey { item_offset: a }, &[WHICH, 4001]),
         string(
             InvalidKeyByte {
                 item_offset: a,
                 byte_offset: b,
                 value: 201,
             },
-            &[4001, 4002, 201],
+            &[WHICH, 4001, 4002, 201],
         ),
-        string(KeyContainsOnlyWhitespace { item_offset: a }, &[4001]),
+        string(KeyContainsOnlyWhitespace { item_offset: a }, &[WHICH, 4001]),
     ];
-    let found: Vec<String> = arms(&source, "StringError", &[])
+    let found: Vec<String> = arms(&source, "StringError")
         .into_iter()
         .map(|(_, text)| text)
         .collect();
@@ -154,7 +117,7 @@ fn bin_show_says_the_same() {
         };
         said(refusal, &[4001, 4002])
     };
-    let found = arms(&source, "LengthSource", &["needed", "had"]);
+    let found = arms(&source, "LengthSource");
     assert_eq!(found[0].1, length(LenSource::Slice));
     assert_eq!(found[1].1, length(LenSource::SdOptionLength));
 
@@ -226,9 +189,9 @@ fn bin_show_says_the_same() {
         (MalformedState, &[]),
     ]
     .map(|(refusal, values): (Refusal, &[u64])| said(refusal, values));
-    let found: Vec<String> = arms(&source, "Refusal", &[])
+    let found: Vec<String> = arms(&source, "Refusal")
         .into_iter()
-        .filter(|(name, _)| !["OptionLength", "ConfigurationString"].contains(&&name[..]))
+        .filter(|(name, _)| name != "ConfigurationString")
         .map(|(_, text)| text)
         .collect();
     assert_eq!(found, expected);

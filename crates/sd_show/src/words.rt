@@ -55,7 +55,7 @@ fn length_words(source: LengthSource, values: [u64; PLACES]) {
     }
 }
 
-// The families of refusals, each with its own and nothing for others. The sizes of a payload: 1 to 6.
+// The refusals by families, each of which says nothing of another's: a match over all takes much longer to check. The sizes of a payload: 1 to 6.
 fn size_words(refusal: Refusal, values: [u64; PLACES]) {
     match refusal {
         Refusal::UnexpectedEndOfSlice(_) => told(
@@ -221,7 +221,7 @@ fn stream_words(refusal: Refusal, values: [u64; PLACES]) {
     }
 }
 
-// Any refusal, with its values in the rules' order; each is named here, so that a new one is missed.
+// Any refusal, with its values in the rules' order. Each is named, so that the compiler asks for a new one.
 fn words(refusal: Refusal, values: [u64; PLACES]) {
     match refusal {
         Refusal::UnexpectedEndOfSlice(_)
