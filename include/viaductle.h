@@ -174,7 +174,8 @@ viaductle_places viaductle_parts(const uint8_t *payload, size_t len, viaductle_a
  *   22, 13, then the options from the front (7, 8, 9). The table is left as by `viaductle_read`. */
 viaductle_answer viaductle_index(const uint8_t *options, size_t len, uint16_t *table, size_t slots);
 
-/* The option of number `ordinal`, from 0, among `count`, by a table. Its configuration string is not scanned again, and nothing is written.
+/* The option of number `ordinal`, from 0, among `count`, by a table; `count` is how many options the reading told that filled the table (values[2]
+ * of `viaductle_read`, values[0] of `viaductle_index`). Its configuration string is not scanned again, and nothing is written.
  *   0: values[0] = its type, values[1] = where it starts in the options part, values[2] = how many bytes it takes (3 more than its length
  *      field). The bytes after its type are values[1] + 3 up to values[1] + values[2]; `viaductle_read_option` of `options + values[1]` gives
  *      its fields.
@@ -208,7 +209,8 @@ typedef struct {
     uint64_t discardable;                            /* 1 or 0 */
     uint64_t priority, weight;                       /* load balancing (0x02) */
     uint64_t address_at, address_len;                /* endpoints and multicast: the address is bytes address_at up to + address_len */
-    uint64_t protocol, port;                         /*   of the option, 4 (0x04, 0x14, 0x24) or 16 (0x06, 0x16, 0x26) of them */
+    uint64_t protocol, port;                         /*   of the option, 4 (0x04, 0x14, 0x24) or 16 (0x06, 0x16, 0x26) of them; the
+                                                      *   protocol as sent: 0x06 is TCP, 0x11 is UDP, any other passes too */
     uint64_t string_at, string_len;                  /* configuration (0x01): the string */
 } viaductle_option;
 
@@ -237,6 +239,10 @@ viaductle_entry viaductle_next_entry(const uint8_t *entries, size_t len, size_t 
 
 /* ---- TP: segments of one message joined in a buffer */
 
+/* A stream is a state and a buffer, both the caller's: one for each sender, message id and request id, which are not judged here, and the same
+ * buffer at each call (a longer one may follow, with the old bytes in front). `viaductle_begin`; `viaductle_consume` for each segment; once
+ * `viaductle_complete` says 1, `viaductle_take`, and `viaductle_clear` for the next message. */
+
 /* The state of a stream is an array of this many words that the caller keeps: the limit, how many ranges are held, whether an end is known
  * (0 or 1), the end, and 32 pairs of start and end, of which as many count as ranges are held. It can be copied, stored and sent; any words
  * get an answer. Words past these are never touched. */
@@ -251,7 +257,8 @@ viaductle_entry viaductle_next_entry(const uint8_t *entries, size_t len, size_t 
 viaductle_answer viaductle_begin(uint32_t *state, size_t words, uint32_t limit);
 
 /* One segment comes: 16 header bytes, 4 TP bytes and its payload, as on the wire.
- *   0: its range is joined, and its bytes stand in the buffer, the message's header at 0 and its payload from 16 on.
+ *   0: its range is joined, and its payload stands in the buffer at 16 plus its offset, over what was there; of the one with offset 0 the header
+ *      stands at 0, without the TP bit (0x20) of its type.
  *   38, 30, 31, 32, 33, 34, 35; then state and buffer are as they were. */
 viaductle_answer viaductle_consume(uint32_t *state, size_t words, const uint8_t *segment, size_t len, uint8_t *buffer, size_t room);
 
