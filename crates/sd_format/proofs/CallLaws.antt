@@ -4,7 +4,7 @@ use mathlib.Core.Bool.{true}
 use mathlib.Core.List.{List, [], _∷_, _++_, map}
 use Prim.Native.Nat.{ℕ, _+_, _*_, _/_, _%_, _≤_}
 use native.Mathlib.Omega.{arith}
-use lib.ListN.{length, take, drop, getD, take-append-drop}
+use lib.ListN.{length, take, drop, getD, length-map, take-append-drop}
 use lib.Seq.{drop-at}
 use borrow.Author.Tests.{ltb-false, eqb-true, eqb-false, lt-ltb, le-ltb, ne-eqb}
 use Rattle.numbers.specs.Answers.{Answer, accepted, refused, pass, _>>=_, _>>_, refuse_when_else_, each, given, All}
@@ -14,14 +14,16 @@ use Rattle.numbers.proofs.ByteLaws.{bytes-drop, be16-at, be32-at, take-tab}
 use Rattle.sd_format.specs.Settings.{Settings}
 use Rattle.sd_format.specs.Options.{Opt}
 use Rattle.sd_format.specs.Kinds.{Kind, configuration, load-balancing, address, unknown, kind-of}
-use Rattle.sd_format.specs.Frames.{Frame, permitted, permit, all-options, read-options, slots, lent, read-index}
+use Rattle.sd_format.specs.Sequences.{counted}
+use Rattle.sd_format.specs.Frames.{Frame, permitted, permit, all-options, read-options, slots, lent, table-after, read-index, look-up}
 use Rattle.sd_format.specs.Fields.{fields}
 use Rattle.sd_format.specs.Layout.{OptionFits, lay-options, wire, lay, Header, lay-header}
 use Rattle.sd_format.specs.Payload.{options-part, read-payload, frames-of, shown, handed-out, header, read-message}
-use Rattle.sd_format.specs.Demand3.{LentExactly, IndexExact, MessageExact}
+use Rattle.sd_format.specs.Demand3.{LentExactly, IndexLaidOut, IndexExact, MessageExact}
 use Rattle.sd_format.specs.Theorems.{TablesLeft}
+use Rattle.sd_format.proofs.SequenceLaws.{counted-map}
 use Rattle.sd_format.proofs.TableLaws.{Few, table-law}
-use Rattle.sd_format.proofs.OptionLaws.{read-parts, permits-all, few-slots-used, options-lay, options-read, options-own}
+use Rattle.sd_format.proofs.OptionLaws.{read-parts, permits-all, few-slots-used, looked-up, options-lay, options-read, options-own}
 use Rattle.sd_format.proofs.PayloadLaws.{lay-handed, read-says, options-part-length}
 use Rattle.sd_format.proofs.Demand3.{demand3}
 
@@ -86,6 +88,20 @@ index-reads s = go (all-options s) refl
     go (accepted fs) e = then-pass _ _ (permits-all any-unknown fs .1 (all-always fs))
     go (refused r) e = refl
 
+-- what is laid out is read
+module _ (s : List ℕ) (os : List Opt) (h : IndexLaidOut s os) where
+  laid-read : all-options s ≡ accepted (map wire os)
+  laid-read = read-parts any-unknown s (map wire os) .0 (rw (← (h .2)) (options-lay any-unknown os (h .1))) .0
+
+  pub index-laid : read-index s ≡ accepted (map wire os)
+  unfolding read-index
+  index-laid = when-pass _ _ _ (le-ltb 1388 (length s) (h .0)) ∙ laid-read
+
+  index-looked-up : (tab : List ℕ) → slots ≤ length tab → (k : ℕ) → look-up s (table-after tab (read-index s)) (length os) k ≡ given wire (counted os k)
+  index-looked-up tab long k =
+      (λ i. look-up s (table-after tab (index-laid i)) (sym (length-map os wire) i) k)
+      ∙ looked-up s (map wire os) laid-read (h .0) tab long k ∙ counted-map wire os k
+
 pub index-exact : (s : List ℕ) → Bytes s → IndexExact s
 unfolding read-index given refuse_when_else_
 index-exact s b =
@@ -96,10 +112,9 @@ index-exact s b =
             let (long, all-read) = when-accepted _ _ _ _ read in
             let (fits, laid, back) = options-read any-unknown s b fs (read-parts any-unknown s fs .1 (all-read, all-always fs)) in
             subst (λ (l : List Opt). (length s ≤ 1388) × All (OptionFits any-unknown) l × (lay-options l ≡ s)) own (ltb-false 1388 (length s) long, fits, laid)),
-        (λ h.
-            let read : read-options any-unknown s ≡ accepted (map wire os) = rw (← (h .2)) (options-lay any-unknown os (h .1)) in
-            rw (le-ltb 1388 (length s) (h .0), read-parts any-unknown s (map wire os) .0 read .0) (ap accepted (options-own any-unknown os (h .1)))),
+        (λ h. ap (given (map fields)) (index-laid s os h) ∙ ap accepted (options-own any-unknown os (h .1))),
       );
+      looked-up = index-looked-up s;
     }
 
 -- ---- the message

@@ -51,10 +51,15 @@ pub record LentExactly {A : Type 0} (tab : List ℕ) (a : Answer A) : Type 0 whe
   pub short : length tab < 347 → lent tab a ≡ refused (refusal 22 (length tab ∷ []))
   pub enough : 347 ≤ length tab → lent tab a ≡ a
 
--- the index alone: at most 1,388 bytes that are options laid out, unknown ones whether they may be discarded or not
+-- at most 1,388 bytes that are options laid out, unknown ones whether they may be discarded or not
+abbrev pub IndexLaidOut : List ℕ → List Opt → Type 0
+IndexLaidOut s os = (length s ≤ 1388) × All (OptionFits (record { discard = true })) os × (lay-options os ≡ s)
+
+-- the index alone: exactly those bytes, and looking up any number in its table gives what counting from the front gives
 pub record IndexExact (s : List ℕ) : Type 0 where
-  pub handed : (os : List Opt) → (given (map fields) (read-index s) ≡ accepted os)
-      ↔ ((length s ≤ 1388) × All (OptionFits (record { discard = true })) os × (lay-options os ≡ s))
+  pub handed : (os : List Opt) → (given (map fields) (read-index s) ≡ accepted os) ↔ IndexLaidOut s os
+  pub looked-up : (os : List Opt) → IndexLaidOut s os → (tab : List ℕ) → slots ≤ length tab → (k : ℕ)
+      → look-up s (table-after tab (read-index s)) (length os) k ≡ given wire (counted os k)
 
 -- the message: a header with a session that is not 0, and a payload laid out behind it
 pub record MessageExact (g : Settings) (s : List ℕ) : Type 0 where

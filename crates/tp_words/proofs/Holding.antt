@@ -24,6 +24,7 @@ use Rattle.tp_range.proofs.Laws.{over-length, placed-over}
 use Rattle.tp_stream.specs.declared.TpStream.{TpStream}
 use Rattle.tp_stream.specs.Stream.{view, stored, blank, held}
 use Rattle.tp_stream.proofs.StreamLaws.{view-stored}
+use Rattle.tp_stream.proofs.MalformedLaws.{more-than-most}
 use Rattle.tp_words.specs.Words.{size, pair-at, pairs, end-of, unfit, outside, held-in, stream-of, state-of, flat, known, words-of, put}
 use Rattle.tp_words.specs.Holding.{Tellable, Unfit, Refuses, WordsHold}
 use Rattle.tp_words.proofs.WordLaws.{pairs-length, flat-length}
@@ -144,6 +145,14 @@ outside-bad = refl
 unfit-malformed : (ws : List ℕ) → unfit ws ≡ true → bad-state (state-of ws) ≡ true
 unfit-malformed ws e = ap (λ (s : TpStream). bad-state (view s)) (sym (not-told ws e)) ∙ outside-bad
 
+many-malformed : (ws : List ℕ) → most < getD ws 1 0 → bad-state (state-of ws) ≡ true
+many-malformed ws h = go (unfit ws) refl
+  where
+    go : (b : Bool) → unfit ws ≡ b → bad-state (state-of ws) ≡ true
+    unfolding held-in
+    go true e = unfit-malformed ws e
+    go false e = ap (λ (s : TpStream). bad-state (view s)) (sym (told ws e)) ∙ sym (more-than-most (held-in ws) h)
+
 refuses : (p : State) → bad-state p ≡ true → Refuses p
 unfolding judged taking ready complete given
 refuses p m =
@@ -168,4 +177,5 @@ words-hold =
       unfit-means = unfit-means;
       unfit-malformed = unfit-malformed;
       unfit-refuses = λ ws e. refuses (state-of ws) (unfit-malformed ws e);
+      many-refuses = λ ws h. refuses (state-of ws) (many-malformed ws h);
     }

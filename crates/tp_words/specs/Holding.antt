@@ -47,3 +47,5 @@ pub record WordsHold : Type 0 where
   pub unfit-means : (ws : List ℕ) → (unfit ws ≡ true) ↔ Unfit ws
   pub unfit-malformed : (ws : List ℕ) → unfit ws ≡ true → bad-state (state-of ws) ≡ true
   pub unfit-refuses : (ws : List ℕ) → unfit ws ≡ true → Refuses (state-of ws)
+  -- and words that count more ranges than may be held, whatever else they tell
+  pub many-refuses : (ws : List ℕ) → most < getD ws 1 0 → Refuses (state-of ws)
