@@ -18,11 +18,11 @@ use Rattle.config_string.specs.Items.{next-item}
 use Rattle.sd_index.specs.Steps.{run-of}
 use Rattle.hub.specs.Answers.{row, told, no-values, option-values, item-values}
 use Rattle.hub.specs.Entries.{entry-told}
-use Rattle.hub.specs.Options.{Indexes, option-fields, read-option-told}
+use Rattle.hub.specs.Options.{option-fields, read-option-told}
 use Rattle.hub.specs.Payload.{places-told}
 use Rattle.hub.specs.Tp.{Begins, Consumes, completes, Takes, Clears}
-use Rattle.hub.specs.OfTheHub.{start, told-of, HandedToC, PartsOf, ToldToC, OfTheHub, OfTheMessage}
-use Rattle.hub.proofs.OfTheHub.{of-the-hub, of-the-message}
+use Rattle.hub.specs.OfTheHub.{start, told-of, HandedToC, PartsOf, ToldToC, OfTheHub, OfTheIndex, OfTheMessage}
+use Rattle.hub.proofs.OfTheHub.{of-the-hub, of-the-index, of-the-message}
 use Rattle.hub.proofs.entries.viaductle_read_entry.Reads as read-entry-of
 use Rattle.hub.proofs.entries.viaductle_next_entry.Reads as next-entry-of
 use Rattle.hub.proofs.options.viaductle_index.Reads as index-of
@@ -50,6 +50,9 @@ reads κs a r e learnt b long = of-the-hub (a .1 .1 .0) (now (a .0)) (now (a .1 
 pub reads-message : (κs : _) (a : _) (r : _) (e : _) → read-message-of.Learnt κs a r e → Bytes (now (a .0)) → 347 ≤ length (now (a .1 .0))
     → OfTheMessage (a .1 .1 .0) (now (a .0)) (now (e .1 .0)) r
 reads-message κs a r e learnt b long = of-the-message (a .1 .1 .0) (now (a .0)) (now (a .1 .0)) (now (e .1 .0)) r b long learnt
+
+pub indexes : (κs : _) (a : _) (r : _) (e : _) → index-of.Learnt κs a r e → Bytes (now (a .0)) → 347 ≤ length (now (a .1 .0)) → OfTheIndex (now (a .0)) (now (e .1 .0)) r
+indexes κs a r e learnt b long = of-the-index (now (a .0)) (now (a .1 .0)) (now (e .1 .0)) r b long learnt
 
 -- the parts after an answer to which the theorem holds
 pub parts : (q : Payload) (s tab : List ℕ) (κs : _) (a : _) (r : _) (e : _) → parts-of.Learnt κs a r e → now (a .0) ≡ s → ToldToC q s tab (a .1 .0) → PartsOf q s r
@@ -83,9 +86,6 @@ read-entries κs a r e learnt = learnt
 pub of-runs : (κs : _) (a : _) (r : _) (e : _) → next-of-run-of.Learnt κs a r e
     → r ≡ told (option-values (getD (now (a .1 .0)) (a .1 .1 .1 .0) 0)) (next-of-run (now (a .0)) (now (a .1 .0)) (a .1 .1 .0) (run-of (a .1 .1 .1 .0) (a .1 .1 .1 .1 .0)))
 of-runs κs a r e learnt = learnt
-
-pub indexes : (κs : _) (a : _) (r : _) (e : _) → index-of.Learnt κs a r e → Indexes (now (a .0)) (now (a .1 .0)) r (now (e .1 .0))
-indexes κs a r e learnt = learnt
 
 pub strings : (κs : _) (a : _) (r : _) (e : _) → string-of.Learnt κs a r e → r ≡ told no-values (verdict (read-string (now (a .0))))
 strings κs a r e learnt = learnt

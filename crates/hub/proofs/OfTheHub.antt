@@ -20,17 +20,17 @@ use Rattle.numbers.proofs.ByteLaws.{bytes-drop}
 use Rattle.sd_format.specs.Sequences.{counted, starts}
 use Rattle.sd_format.specs.Options.{Opt}
 use Rattle.sd_format.specs.Kinds.{scanned}
-use Rattle.sd_format.specs.Frames.{Frame, size, slots, read-option, look-up, next-option, next-of-run}
+use Rattle.sd_format.specs.Frames.{Frame, size, slots, read-option, lent, read-index, look-up, next-option, next-of-run}
 use Rattle.sd_format.specs.Entries.{Entry, read-entry, next-entry}
 use Rattle.sd_format.specs.Fields.{fields}
 use Rattle.sd_format.specs.Layout.{lay-all, lay-entry, lay-option, lay-entries, lay-options, EntryFits, OptionFits, wire, Payload, lay-opening, lay-parts}
 use Rattle.sd_format.specs.Payload.{entries-length, entries-part, options-part, Reading, flags, read-payload, shown, handed-out, read-message}
-use Rattle.sd_format.specs.Demand3.{LaidOut, table-left}
+use Rattle.sd_format.specs.Demand3.{LaidOut, table-left, IndexLaidOut}
 use Rattle.sd_format.proofs.FrameLaws.{lay-frame, length-frame, option-lay}
 use Rattle.sd_format.proofs.FieldLaws.{wired}
 use Rattle.sd_format.proofs.EntryLaws.{length-entry, entry-lay, entry-plain}
 use Rattle.sd_format.proofs.PayloadLaws.{length-opening, part-entries, part-options, lay-read, ReadSays, read-says}
-use Rattle.sd_format.proofs.CallLaws.{lent-exactly, tables-left, message-exact}
+use Rattle.sd_format.proofs.CallLaws.{lent-exactly, tables-left, index-laid, index-exact, message-exact}
 use Rattle.sd_format.proofs.Demand3.{demand3}
 use Rattle.sd_field.specs.Said.{Decoded, decoded}
 use Rattle.sd_payload.specs.Sized.{sized}
@@ -38,11 +38,11 @@ use Rattle.sd_payload.specs.Reads.{flags-laid, summed}
 use Rattle.sd_payload.proofs.FlagsByName.{flags-by-name-laid}
 use Rattle.hub.specs.declared.answers.Answer as hub
 use Rattle.hub.specs.declared.payload.Places.{Places}
-use Rattle.hub.specs.Answers.{row, told, option-values}
+use Rattle.hub.specs.Answers.{row, told, one-value, option-values}
 use Rattle.hub.specs.Payload.{settings-of, flag-bits, summary-values, Reads, nowhere, places-of, placed, places-told}
 use Rattle.hub.specs.Entries.{entry-told}
-use Rattle.hub.specs.Options.{option-told, read-option-told, option-fields}
-use Rattle.hub.specs.OfTheHub.{start, laid-values, told-of, HandedToC, PartsOf, ToldToC, OfTheHub, OfTheMessage}
+use Rattle.hub.specs.Options.{Indexes, option-told, read-option-told, option-fields}
+use Rattle.hub.specs.OfTheHub.{start, laid-values, told-of, HandedToC, PartsOf, ToldToC, OfTheHub, OfTheIndex, OfTheMessage}
 use Rattle.hub.proofs.HandedLaws.{stands-there, there-or-not, past-end, next-laid}
 
 -- ---- an entry and an option in front of other bytes
@@ -275,6 +275,46 @@ module _ (word : ℕ) (s tab tab′ : List ℕ) (r : hub.Answer) (b : Bytes s) (
         exactly = (laid-out, λ a. ap (λ (x : hub.Answer). x .number) (answer (a .0) (a .1)));
         after = told-to-c;
         empty-parts = empty-parts;
+      }
+
+-- ---- the index alone
+
+module _ (s tab tab′ : List ℕ) (r : hub.Answer) (b : Bytes s) (long : 347 ≤ length tab) (h : Indexes s tab r tab′) where
+  index-accepted : lent tab (read-index s) ≡ read-index s
+  index-accepted = lent-exactly tab (read-index s) .enough long
+
+  module _ (os : List Opt) (laid : IndexLaidOut s os) where
+    index-answer : r ≡ row 0 (length os ∷ [])
+    unfolding given
+    index-answer =
+        h .answers ∙ ap (λ (a : Answer (List Frame)). told one-value (given length a)) (index-accepted ∙ index-laid s os laid)
+        ∙ ap (λ (n : ℕ). row 0 (n ∷ [])) (length-map os wire)
+
+    index-slot : (k : ℕ) → k < length os → getD tab′ k 0 ≡ start os k
+    index-slot k inside =
+        ap (λ (t : List ℕ). getD t k 0) (h .slots)
+        ∙ tables-left .index s tab .offsets long (map wire os) (index-laid s os laid) k (omega (arith, length-map os wire))
+        ∙ start-from _ os (laid .1) 0 k inside ∙ zero-add (start os k)
+
+    index-looked : (k : ℕ) → look-up (lay-options os) tab′ (length os) k ≡ given wire (counted os k)
+    unfolding slots
+    index-looked k = (λ i. look-up (laid .2 i) (h .slots i) (length os) k) ∙ index-exact s b .looked-up os laid tab long k
+
+    index-handed : HandedToC [] os tab′
+    index-handed = handed-to-c _ os (laid .1) (length os) [] tt tab′ index-looked index-slot
+
+  index-laid-out : r .number ≡ 0 → (os : List Opt) × IndexLaidOut s os
+  unfolding given
+  index-laid-out z =
+      let (fs, read) = h .zero z in
+      (map fields fs, index-exact s b .handed (map fields fs) .0 (ap (given (map fields)) (sym index-accepted ∙ read)))
+
+  pub of-the-index : OfTheIndex s tab′ r
+  of-the-index =
+      record {
+        exactly = (index-laid-out, λ a. ap (λ (x : hub.Answer). x .number) (index-answer (a .0) (a .1)));
+        answer = index-answer;
+        handed = index-handed;
       }
 
 -- ---- the message

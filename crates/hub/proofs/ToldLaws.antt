@@ -2,6 +2,7 @@
 use Prim.Native.Nat.{ℕ}
 use mathlib.Core.Path.{_≡_, refl, sym, ap, _∙_, subst}
 use mathlib.Core.List.{List}
+use lib.ListN.{length}
 use Rattle.numbers.specs.Refusals.{Refusal}
 use Rattle.numbers.specs.Answers.{given}
 use Rattle.numbers.specs.Answers as paper
@@ -10,6 +11,7 @@ use Rattle.sd_format.specs.Frames.{Frame, lent, read-index}
 use Rattle.sd_format.specs.Payload.{Reading}
 use Rattle.refusal.specs.declared.values.Numbers.{Numbers}
 use Rattle.refusal.specs.declared.answers.Count.{Count}
+use Rattle.refusal.specs.declared.answers.Count.the-variants as count
 use Rattle.refusal.specs.Said.{laid, count-said}
 use Rattle.sd_option.specs.Reading.{head-of}
 use Rattle.sd_index.specs.Found.{located}
@@ -39,11 +41,23 @@ unfolding given
 headed-told at (paper.accepted f) = refl
 headed-told at (paper.refused r) = refl
 
+-- a refusal of the code never has the number of an acceptance
+zero-count : (a : Count) (r : Answer) → r ≡ told one-value (count-said a) → r .number ≡ 0 → (n : ℕ) × (count-said a ≡ paper.accepted n)
+zero-count (count.Good n) r e z = (n, refl)
+zero-count (count.Refused q) r e z = absurd (telling one-value .never-zero q (sym (ap (λ (x : Answer). x .number) e) ∙ z))
+
 -- a lent table
 pub indexes : (s tab tab′ : List ℕ) (a : Count) (r : Answer) → Indexed (read-index s) tab tab′ a → r ≡ told one-value (count-said a) → Indexes s tab r tab′
-indexes s tab tab′ a r i e = record { answers = e ∙ ap (told one-value) (i .told); slots = i .slots }
+indexes s tab tab′ a r i e =
+    record {
+      answers = e ∙ ap (told one-value) (i .told);
+      slots = i .slots;
+      zero = λ z.
+          let (n, said) = zero-count a r e z in
+          let (fs, read, same) = given-accepted length (lent tab (read-index s)) n (sym (i .told) ∙ said) in
+          (fs, read);
+    }
 
--- a refusal of the code never has the number of an acceptance
 zero-good : (a : PayloadAnswer) (r : Answer) → r ≡ told summary-values (payload-said a) → r .number ≡ 0 → (p : SdPayload) × (payload-said a ≡ paper.accepted p)
 zero-good (Good p) r e z = (p, refl)
 zero-good (Refused q) r e z = absurd (telling summary-values .never-zero q (sym (ap (λ (x : Answer). x .number) e) ∙ z))

@@ -13,7 +13,7 @@ use Rattle.sd_format.specs.Options.{Opt}
 use Rattle.sd_format.specs.Frames.{look-up, next-option, next-of-run}
 use Rattle.sd_format.specs.Entries.{Entry, next-entry}
 use Rattle.sd_format.specs.Layout.{lay-option, lay-entries, lay-options, Payload}
-use Rattle.sd_format.specs.Demand3.{LaidOut}
+use Rattle.sd_format.specs.Demand3.{LaidOut, IndexLaidOut}
 use Rattle.sd_index.specs.Steps.{run-of}
 use Rattle.sd_payload.specs.OfTheCode.{MessageLaidOut}
 use Rattle.hub.specs.declared.answers.Answer.{Answer}
@@ -80,6 +80,13 @@ pub record OfTheHub (word : ℕ) (s tab : List ℕ) (r : Answer) : Type 0 where
   -- after a refusal the parts are empty
   pub empty-parts : (r .number ≡ 0 → ⊥) → (p : Places) → p ≡ places-told (r .number) s
       → p ≡ record { «entries_at» = 0; «entries_len» = 0; «options_at» = 0; «options_len» = 0 }
+
+-- the options part `s` was read alone with the answer `r` and left the table `tab`: 0 exactly where it is options laid out, then how many they are,
+-- and each of them is told
+pub record OfTheIndex (s tab : List ℕ) (r : Answer) : Type 0 where
+  pub exactly : (r .number ≡ 0) ↔ ((os : List Opt) × IndexLaidOut s os)
+  pub answer : (os : List Opt) → IndexLaidOut s os → r ≡ row 0 (length os ∷ [])
+  pub handed : (os : List Opt) → IndexLaidOut s os → HandedToC [] os tab
 
 -- the message `m` was read so: the same of what stands behind its header
 pub record OfTheMessage (word : ℕ) (m tab : List ℕ) (r : Answer) : Type 0 where

@@ -7,7 +7,7 @@ use lib.ListN.{length}
 use Rattle.numbers.specs.Answers.{given}
 use Rattle.numbers.specs.Answers as paper
 use Rattle.sd_format.specs.Options.{First, Opt, configuring, balancing, addressed, unrecognised}
-use Rattle.sd_format.specs.Frames.{read-option, lent, table-after, read-index}
+use Rattle.sd_format.specs.Frames.{Frame, read-option, lent, table-after, read-index}
 use Rattle.sd_format.specs.Layout.{lay-type, address-length}
 use Rattle.sd_field.specs.Said.{Decoded, decoded}
 use Rattle.hub.specs.declared.answers.Answer.{Answer}
@@ -19,6 +19,8 @@ use Rattle.hub.specs.Answers.{row, refusal-row, told, one-value}
 pub record Indexes (s tab : List ℕ) (r : Answer) (tab′ : List ℕ) : Type 0 where
   pub answers : r ≡ told one-value (given length (lent tab (read-index s)))
   pub slots : tab′ ≡ table-after tab (read-index s)
+  -- 0 is answered for what is accepted alone
+  pub zero : r .number ≡ 0 → (fs : List Frame) × (lent tab (read-index s) ≡ paper.accepted fs)
 
 -- ---- one option with its fields
 

@@ -6,3 +6,4 @@ pub mod StepLaws
 pub mod TakingLaws
 pub mod Unique
 pub mod Follows
+pub mod Record

@@ -146,10 +146,10 @@ unfit-malformed : (ws : List ℕ) → unfit ws ≡ true → bad-state (state-of 
 unfit-malformed ws e = ap (λ (s : TpStream). bad-state (view s)) (sym (not-told ws e)) ∙ outside-bad
 
 many-malformed : (ws : List ℕ) → most < getD ws 1 0 → bad-state (state-of ws) ≡ true
+unfolding held-in
 many-malformed ws h = go (unfit ws) refl
   where
     go : (b : Bool) → unfit ws ≡ b → bad-state (state-of ws) ≡ true
-    unfolding held-in
     go true e = unfit-malformed ws e
     go false e = ap (λ (s : TpStream). bad-state (view s)) (sym (told ws e)) ∙ sym (more-than-most (held-in ws) h)
 
