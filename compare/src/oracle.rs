@@ -408,7 +408,7 @@ mod tests {
 
     /// The rules, 'Both sides of each line': payloads.
     #[test]
-    fn payloads_of_document_01() {
+    fn payloads_of_the_rules() {
         assert_eq!(said(&[0; 12], false), Answer::new(0, &[]));
         assert_eq!(said(&[0; 11], false), Answer::new(1, &[12]));
         assert_eq!(said(&[0; 13], false), Answer::new(6, &[12, 13]));
@@ -444,7 +444,7 @@ mod tests {
 
     /// The rules, 'Both sides of each line': strings.
     #[test]
-    fn strings_of_document_01() {
+    fn strings_of_the_rules() {
         for (text, values) in [
             ("", &[1][..]),
             ("0000", &[3, 0]),

@@ -172,7 +172,7 @@ mod tests {
 
     /// The rules, 'Both sides of each line': TP.
     #[test]
-    fn streams_of_document_01() {
+    fn streams_of_the_rules() {
         let mut stream = Stream::begin(65_520);
         assert!(stream.consume(&plain(0, true, 16)).accepted());
         assert_eq!(stream.take().0.number, 37);

@@ -284,7 +284,7 @@ mod tests {
         }
     }
 
-    /// Every refusal that the crate can give comes up in a run of this size, and every one that only the document has.
+    /// Every refusal that the crate can give comes up in a run of this size, and every one that only the rules have.
     #[test]
     fn every_number_comes_up() {
         let mut tally = service_discovery(&StandIn, &SMALL);

@@ -156,10 +156,16 @@ pub enum SdConfigurationStringError {
 pub const MAX_REFUSAL_VALUES: usize = VALUES;
 
 /// The values of a refusal in the rules' order; it is a slice of none to [`MAX_REFUSAL_VALUES`] numbers.
-#[derive(Clone, Copy, Debug, PartialEq, Eq, Hash)]
+#[derive(Clone, Copy, PartialEq, Eq, Hash)]
 pub struct Values {
     all: [u64; VALUES],
     count: usize,
+}
+
+impl core::fmt::Debug for Values {
+    fn fmt(&self, f: &mut core::fmt::Formatter<'_>) -> core::fmt::Result {
+        (**self).fmt(f)
+    }
 }
 
 impl core::ops::Deref for Values {

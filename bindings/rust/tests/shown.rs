@@ -101,3 +101,10 @@ fn a_stream() {
         "TpStream { words: no state of a stream, [9, 9, 9, 9] .. }"
     );
 }
+
+#[test]
+fn the_values_of_a_refusal() {
+    let mut table = OffsetTable::new();
+    let refused = SdSlice::from_slice(&[0; 13], &mut table).unwrap_err();
+    assert_eq!(format!("{:?}", refused.values()), "[12, 13]");
+}

@@ -10,3 +10,4 @@ pub mod HandedLaws
 pub mod OfTheHub
 pub mod ByName
 pub mod Called
+pub mod Marked

@@ -1,5 +1,5 @@
 -- Any two outcomes that a promise of an exported function allows are the same: answers, table, words and buffer. Where a promise is one equation
--- for the answer (`viaductle_parts`, `lookup`, `next_option`, `next_of_run`, `string`, `read_option`, `read_entry`, `next_entry`, `complete`)
+-- for the answer (`viaductle_parts`, `lookup`, `next_option`, `next_of_run`, `string`, `next_item`, `read_option`, `read_entry`, `next_entry`, `complete`)
 -- it is `same`. Assumes nothing.
 use Prim.Native.Nat.{ℕ}
 use mathlib.Core.Path.{_≡_, sym, _∙_}

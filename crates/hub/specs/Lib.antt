@@ -6,3 +6,4 @@ pub mod Payload
 pub mod Telling
 pub mod OfTheHub
 pub mod ByName
+pub mod Marked

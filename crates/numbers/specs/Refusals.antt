@@ -1,4 +1,4 @@
--- The rules' table 'Numbers the hub gives back': each refusal by its number, with the values that it gives, in that order.
+-- The rules' table of refusals: each refusal by its number, with the values that it gives, in that order.
 -- Assumes nothing: these are definitions.
 use Prim.Native.Nat.{ℕ}
 use mathlib.Core.List.{List, [], _∷_}

@@ -1,5 +1,5 @@
 -- An entry by the names that the code has for its fields, at the rules' places, and the statement that these are the places of what it says.
--- Written from the document's text, with nothing of the reading or of sd_format's layout. proofs/ByName.antt proves it. Assumes nothing: these
+-- Written from the rules' text, with nothing of the reading or of sd_format's layout. proofs/ByName.antt proves it. Assumes nothing: these
 -- are definitions.
 use Prim.Native.Nat.{ℕ, _+_, _*_}
 use mathlib.Core.Path.{_≡_}

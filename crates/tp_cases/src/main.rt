@@ -1,4 +1,4 @@
-// Runs the rules' cases of joining segments ('Both sides of each line') through the public functions and the exported ones, and prints each on a
+// Runs the rules' cases of joining segments through the public functions and the exported ones, and prints each on a
 // line: what came, the answer to it, and at the end the report. The file stdout holds what the rules say; where an exported function told
 // something else, the line says so.
 use big_endian::be32;
