@@ -11,10 +11,10 @@ use lib.ListN.{length, getD, take, drop}
 use Rattle.numbers.specs.Refusals.{nothing-there, missing-terminator}
 use Rattle.numbers.specs.Answers.{Answer, accepted, refused, _>>=_}
 use Rattle.numbers.proofs.AnswerLaws.{not-refused, accepted-inj, then-accepted, bind-accepted}
-use Rattle.sd_format.specs.Sequences.{HandsOut, ended, gave}
-use Rattle.sd_format.specs.Strings.{judge-item, read-string}
+use Rattle.sd_format.specs.Sequences.{ended, gave}
+use Rattle.sd_format.specs.Strings.{judge-item}
 use Rattle.sd_format.proofs.StringLaws.{items-left, left-whole, left-end, left-terminator, left-item, closed-nothing}
-use Rattle.config_string.specs.Items.{next-item, past}
+use Rattle.config_string.specs.Items.{next-item, past, Handed, ItemsHanded}
 use Rattle.config_string.proofs.ItemLaws.{past-item, next-terminator, next-good}
 
 -- the cursor is at the end of the items, or it finds the first of them and stands before the others
@@ -55,10 +55,6 @@ module _ (s : List ℕ) (at : ℕ) (items : List (List ℕ)) (read : items-left 
       go false true out zero-byte = inl (last (leb-false _ _ out) (eqb-true _ _ zero-byte))
       go false false out some = inr (first (leb-false _ _ out) (eqb-false _ _ some))
 
--- the items from a place on
-abbrev Handed : List ℕ → ℕ → List (List ℕ) → Type 0
-Handed s = HandsOut (next-item s) (λ item at. past at item)
-
 handed-from : (s : List ℕ) (at : ℕ) (items : List (List ℕ)) → items-left s at ≡ accepted items → Handed s at items
 handed-from s at [] read =
     ⊎-elim
@@ -76,5 +72,5 @@ handed-from s at (item ∷ later) read =
     (handed-from s (past at item) later (ap (λ (i : List ℕ). items-left s (past at i)) (sym here) ∙ more .stands ∙ ap accepted after)))
     (step s at (item ∷ later) read)
 
-pub items-handed : (s : List ℕ) (items : List (List ℕ)) → read-string s ≡ accepted items → Handed s 0 items
+pub items-handed : ItemsHanded
 items-handed s items read = handed-from s 0 items (sym (left-whole s) ∙ read)

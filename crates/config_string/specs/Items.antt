@@ -1,11 +1,13 @@
 -- The items of a configuration string, one after the other. Assumes nothing: these are definitions.
 use Prim.Native.Nat.{ℕ, _+_}
+use mathlib.Core.Path.{_≡_}
 use mathlib.Core.List.{List}
 use lib.ListN.{length, getD, take, drop}
 use lib.Dec.{leb, eqb}
 use Rattle.numbers.specs.Refusals.{nothing-there}
 use Rattle.numbers.specs.Answers.{Answer, accepted, _>>_, refuse_when_else_}
-use Rattle.sd_format.specs.Strings.{judge-item}
+use Rattle.sd_format.specs.Sequences.{HandsOut}
+use Rattle.sd_format.specs.Strings.{judge-item, read-string}
 
 -- the item whose length byte stands at `at`: 20 with no bytes left and at the terminator, otherwise judged as in the reading of the string
 unfoldable pub next-item : List ℕ → (at : ℕ) → Answer (List ℕ)
@@ -18,3 +20,11 @@ next-item s at =
 -- where the cursor stands after that item
 abbrev pub past : (at : ℕ) → List ℕ → ℕ
 past at item = at + (1 + length item)
+
+-- the cursor at a place hands out these items, one after the other, and then 20
+abbrev pub Handed : List ℕ → (at : ℕ) → List (List ℕ) → Type 0
+Handed s = HandsOut (next-item s) (λ item at. past at item)
+
+-- over an accepted string it hands out the string's items; proofs/ItemsHanded.antt proves it
+abbrev pub ItemsHanded : Type 0
+ItemsHanded = (s : List ℕ) (items : List (List ℕ)) → read-string s ≡ accepted items → Handed s 0 items

@@ -13,9 +13,8 @@ use Rattle.sd_format.specs.Options.{Opt}
 use Rattle.sd_format.specs.Frames.{look-up, next-option, next-of-run}
 use Rattle.sd_format.specs.Entries.{Entry, next-entry}
 use Rattle.sd_format.specs.Layout.{lay-option, lay-entries, lay-options, Payload}
-use Rattle.sd_format.specs.Demand3.{LaidOut, IndexLaidOut}
+use Rattle.sd_format.specs.Demand3.{LaidOut, IndexLaidOut, MessageLaidOut}
 use Rattle.sd_index.specs.Steps.{run-of}
-use Rattle.sd_payload.specs.OfTheCode.{MessageLaidOut}
 use Rattle.hub.specs.declared.answers.Answer.{Answer}
 use Rattle.hub.specs.declared.entries.Entry as exported
 use Rattle.hub.specs.declared.options.Option.{Option}

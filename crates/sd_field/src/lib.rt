@@ -12,6 +12,8 @@ use sd_option::kinds::Family;
 use sd_option::kinds::OptionKind;
 use sd_option::kinds::Role;
 use sd_option::kinds::kind_of;
+use sd_option::reading::DISCARDABLE;
+use sd_option::reading::FRAME_LEN;
 use sd_option::reading::OptionAnswer;
 use sd_option::reading::OptionHead;
 use sd_option::reading::option_bytes;
@@ -69,12 +71,6 @@ pub enum FieldsAnswer {
     Refused(Refusal),
 }
 
-// The length and the type, which stand before the bytes that hold the fields.
-const FRAME_LEN: usize = 3;
-
-// The discardable bit; the seven other bits of its byte are below it.
-const DISCARDABLE: u8 = 0x80;
-
 // An option with an address, whose other fields stand in `body`, the bytes after its type.
 fn address_option(family: Family, role: Role, first: OptionFirst, body: &[u8]) -> SdOption
     requires { ⌜ needed (address (family-said family) (role-said role)) ≤ length (now body) ⌝ }
@@ -99,7 +95,7 @@ fn fields_of(head: OptionHead, body: &[u8]) -> SdOption
     let code = head.code;
     let first = OptionFirst {
         discardable: head.discardable,
-        others: body[0] % DISCARDABLE,
+        others: body[0] % DISCARDABLE, // the seven bits below it
     };
     let kind = kind_of(code);
     match kind {

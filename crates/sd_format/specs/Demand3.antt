@@ -61,10 +61,13 @@ pub record IndexExact (s : List ℕ) : Type 0 where
   pub looked-up : (os : List Opt) → IndexLaidOut s os → (tab : List ℕ) → slots ≤ length tab → (k : ℕ)
       → look-up s (table-after tab (read-index s)) (length os) k ≡ given wire (counted os k)
 
--- the message: a header with a session that is not 0, and a payload laid out behind it
-pub record MessageExact (g : Settings) (s : List ℕ) : Type 0 where
-  pub handed : (p : Payload) → (given shown (read-message g s) ≡ accepted p)
-      ↔ ((h : Header) × (h .session ≡ 0 → ⊥) × Fits g p × (lay-header h ++ lay p ≡ s))
+-- a header with a session that is not 0, and `p`, which fits the conditions: their layout is `m`
+abbrev pub MessageLaidOut : Settings → List ℕ → Payload → Type 0
+MessageLaidOut g m p = (h : Header) × (h .session ≡ 0 → ⊥) × Fits g p × (lay-header h ++ lay p ≡ m)
+
+-- the message: exactly those bytes
+pub record MessageExact (g : Settings) (m : List ℕ) : Type 0 where
+  pub handed : (p : Payload) → (given shown (read-message g m) ≡ accepted p) ↔ MessageLaidOut g m p
 
 -- a configuration string is accepted exactly when some list of items with good keys, laid out and closed, gives those bytes
 pub record StringsExact (s : List ℕ) : Type 0 where

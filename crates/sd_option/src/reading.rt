@@ -19,13 +19,13 @@ ghost use Rattle.refusal.specs.Said.{verdict-said, count-said};
 ghost use Rattle.sd_option.specs.Reading.{body-length, body-of, behind-type, head-of, option-said, option-refusal};
 
 // The length and the type, which stand before the bytes that the length counts.
-const FRAME_LEN: usize = 3;
+pub const FRAME_LEN: usize = 3;
 
 // Where a configuration string begins: behind the first of those bytes.
 const STRING_START: usize = 4;
 
 // The bit of the first byte that says that an option may be discarded where it is not known.
-const DISCARDABLE: u8 = 0x80;
+pub const DISCARDABLE: u8 = 0x80;
 
 // What is told of an option: its type code, the discardable bit, and how many bytes it takes, its length and its type among them.
 pub struct OptionHead {

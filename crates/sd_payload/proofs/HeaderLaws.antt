@@ -2,17 +2,16 @@
 use mathlib.Core.Path.{_≡_}
 use mathlib.Core.List.{List}
 use Prim.Native.Nat.{ℕ, _≤_}
-use lib.ListN.{length, drop, getD}
+use lib.ListN.{length, drop}
 use borrow.Author.Tests.{le-ltb, ltb-false}
 use Rattle.numbers.specs.Refusals.{Refusal}
 use Rattle.numbers.specs.Answers.{refused, pass, _>>_}
-use Rattle.numbers.specs.Bytes.{at16, at32}
 use Rattle.numbers.proofs.AnswerLaws.{when-pass, when-accepted, then-pass}
 use Rattle.sd_format.specs.Settings.{Settings}
 use Rattle.sd_format.specs.Payload.{read-payload, header, read-message}
-use Rattle.sd_payload.specs.Header.{header-fields}
+use Rattle.sd_payload.specs.Header.{header-fields, HeaderBy}
 
-pub header-by : (s : List ℕ) → 16 ≤ length s → header s ≡ header-fields (at32 s 0) (at16 s 8) (at16 s 10) (getD s 13 0) (getD s 14 0) (getD s 15 0)
+pub header-by : HeaderBy
 unfolding header header-fields
 header-by s long = when-pass _ _ _ (le-ltb (length s) 16 long)
 

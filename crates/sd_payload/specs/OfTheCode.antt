@@ -3,16 +3,16 @@
 use Prim.Native.Nat.{ℕ}
 use mathlib.Core.Path.{_≡_}
 use mathlib.Core.Logic.{_↔_}
-use mathlib.Core.List.{List, [], _++_, map}
+use mathlib.Core.List.{List, [], map}
 use lib.ListN.{length, take, drop, getD}
 use Rattle.numbers.specs.Answers.{accepted, given}
 use Rattle.refusal.specs.declared.Refusal.{Refusal}
 use Rattle.sd_format.specs.Settings.{Settings}
 use Rattle.sd_format.specs.Sequences.{HandsOut, counted}
 use Rattle.sd_format.specs.Options.{First, Opt, configuring, balancing, addressed, unrecognised}
-use Rattle.sd_format.specs.Layout.{lay-option, lay-entries, lay-options, Payload, lay, Fits, Header, lay-header}
+use Rattle.sd_format.specs.Layout.{lay-option, lay-entries, lay-options, Payload}
 use Rattle.sd_format.specs.Payload.{entries-part, options-part}
-use Rattle.sd_format.specs.Demand3.{LaidOut}
+use Rattle.sd_format.specs.Demand3.{LaidOut, MessageLaidOut}
 use Rattle.sd_option.specs.declared.reading.OptionHead.{OptionHead}
 use Rattle.sd_option.specs.Reading.{option-said}
 use Rattle.sd_entry.specs.declared.cursor.EntryCursor.{EntryCursor}
@@ -99,10 +99,6 @@ pub record OfTheCode (g : Settings) (s tab : List ℕ) (r : PayloadAnswer) : Typ
       → AsLaidOut q r (p .options) tab entries options
   -- after a refusal no bytes are handed out
   pub empty : (q : Refusal) → r ≡ Refused q → (bytes part : List ℕ) → part ≡ handed r s bytes → part ≡ []
-
--- a header with a session that is not 0, and a payload that fits the conditions: their layout is `m`
-abbrev pub MessageLaidOut : Settings → List ℕ → Payload → Type 0
-MessageLaidOut g m q = (h : Header) × (h .session ≡ 0 → ⊥) × Fits g q × (lay-header h ++ lay q ≡ m)
 
 -- the message `m` was read with the answer `r` and left the table `tab`
 pub record OfTheMessage (g : Settings) (m tab : List ℕ) (r : PayloadAnswer) : Type 0 where
