@@ -158,13 +158,12 @@ empty-option q =
 
 -- ---- an item
 
-item-by-name : (s : List ℕ) (at : ℕ) (item : List ℕ) → next-item s at ≡ paper.accepted item → TellsItem s item (told (item-values at) (next-item s at))
+item-by-name : (s : List ℕ) (at : ℕ) (item : List ℕ) → next-item s at ≡ paper.accepted item → TellsItem s at item (told (item-values at) (next-item s at))
 unfolding next-item
 item-by-name s at item e =
     let found = then-accepted _ _ item (when-accepted _ _ _ item (when-accepted _ _ _ item e .1) .1) .1 in
     let same : take (getD s at 0) (drop (at + 1) s) ≡ item = accepted-inj _ item found in
     record {
-      start = at + 1;
       answer = ap (told (item-values at)) e;
       there = ap (λ (l : List ℕ). take (length l) (drop (at + 1) s)) (sym same) ∙ take-its-length (getD s at 0) (drop (at + 1) s) ∙ same;
     }

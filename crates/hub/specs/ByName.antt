@@ -96,11 +96,10 @@ pub record EmptyOption (o : Option) : Type 0 where
 
 -- ---- an item
 
--- where its bytes start and how many they are: those of the string `s` that stand there
-pub record TellsItem (s item : List ℕ) (r : Answer) : Type 0 where
-  pub start : ℕ
-  pub answer : r ≡ row 0 (start ∷ length item ∷ [])
-  pub there : take (length item) (drop start s) ≡ item
+-- where its bytes start, behind the length byte at `at`, and how many they are: those of the string `s` that stand there
+pub record TellsItem (s : List ℕ) (at : ℕ) (item : List ℕ) (r : Answer) : Type 0 where
+  pub answer : r ≡ row 0 ((at + 1) ∷ length item ∷ [])
+  pub there : take (length item) (drop (at + 1) s) ≡ item
 
 -- ---- all of them, for each outcome that the definitions allow
 
@@ -109,7 +108,7 @@ pub record ByName : Type 0 where
   pub no-entry : (q : Refusal) (r : Entry) → r ≡ entry-told (paper.refused q) → (r .answer ≡ row (q .number) (q .values)) × EmptyEntry r
   pub option : (g : Settings) (o : Opt) → OptionFits g o → (r : Option) → r ≡ option-fields (length (lay-option o)) o → (r .answer ≡ row 0 []) × TellsOption o r
   pub no-option : (q : Refusal) (r : Option) → r ≡ option-told (paper.refused q) → (r .answer ≡ row (q .number) (q .values)) × EmptyOption r
-  pub item : (s : List ℕ) (at : ℕ) (item : List ℕ) → next-item s at ≡ paper.accepted item → TellsItem s item (told (item-values at) (next-item s at))
+  pub item : (s : List ℕ) (at : ℕ) (item : List ℕ) → next-item s at ≡ paper.accepted item → TellsItem s at item (told (item-values at) (next-item s at))
   -- a verdict is told with no value, a count with itself
   pub verdict : told no-values paper.pass ≡ row 0 []
   pub count : (n : ℕ) → told one-value (paper.accepted n) ≡ row 0 (n ∷ [])

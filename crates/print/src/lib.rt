@@ -40,6 +40,7 @@ pub fn named_code(name: &[u8], n: u64, width: usize) {
     coded(n, width);
 }
 
+// What stands in front, and yes or no.
 pub fn yes_or_no(name: &[u8], yes: bool) {
     text(name);
     if yes {

@@ -1,6 +1,6 @@
-// How many there were, by number.
+// How many there were, by number, and the first that did not agree.
 ghost use mathlib.Core.Path.{_≡_};
-ghost use Rattle.replay.specs.Counts.{more, counted};
+ghost use Rattle.replay.specs.Counts.{more, counted, first-wrong};
 
 // One more, as long as it fits.
 fn one_more(n: u32) -> u32
@@ -20,4 +20,17 @@ pub fn count(counts: &mut [u32], place: u8)
     if i < counts.len() {
         counts[i] = one_more(counts[i]);
     }
+}
+
+// The number of the first record that does not agree: the one that there was, else this one, unless it agrees. 0 stands for none.
+pub fn earlier(first: u32, agrees: bool, this: u32) -> u32
+    ensures { λ r. ⌜ r ≡ first-wrong first agrees this ⌝ }
+{
+    if agrees {
+        return first;
+    }
+    if first == 0 {
+        return this;
+    }
+    first
 }

@@ -6,6 +6,7 @@ mod record;
 mod sum;
 
 pub use counts::count;
+pub use counts::earlier;
 pub use file::next_record;
 pub use record::argument;
 pub use record::byte;

@@ -2,6 +2,7 @@
 // compare/FORMAT.md), and prints how many records agree, by what was read and by answer, and the first that does not.
 use print::line;
 use print::text;
+use replay::earlier;
 
 mod answer; // answer.rt: answers as numbers, and in a sum
 mod entries; // entries.rt: entries in a sum
@@ -18,17 +19,6 @@ fn next_agrees(fd: i32, record: &mut [u8], table: &mut [u16], counts: &mut [u32]
         tally::add(bytes, counts);
     }
     agrees
-}
-
-// The first that does not agree: the one that there was, else this one, unless it agrees.
-fn earlier(first: u32, agrees: bool, i: u32) -> u32 {
-    if agrees {
-        return first;
-    }
-    if first == 0 {
-        return i;
-    }
-    first
 }
 
 // All records of the file; answers which is the first that does not agree, counted from 1, or 0.

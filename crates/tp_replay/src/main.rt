@@ -3,6 +3,7 @@
 // compared: the answer, the ranges, the end, the report.
 use print::line;
 use print::text;
+use replay::earlier;
 use tp_words::WORDS;
 
 mod state; // state.rt: whether a stream is as recorded
@@ -28,17 +29,6 @@ fn next_agrees(
         tally::add(bytes, counts);
     }
     agrees
-}
-
-// The first that does not agree: the one that there was, else this one, unless it agrees.
-fn earlier(first: u32, agrees: bool, i: u32) -> u32 {
-    if agrees {
-        return first;
-    }
-    if first == 0 {
-        return i;
-    }
-    first
 }
 
 // All records of the file; answers which is the first that does not agree, counted from 1, or 0.
