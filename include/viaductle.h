@@ -224,7 +224,7 @@ typedef struct {
     uint64_t number, values[VIADUCTLE_VALUES];       /* as in viaductle_answer; after 0 the values hold 0 */
     uint64_t type;                                   /* 0x00 find, 0x01 offer, 0x06 subscribe, 0x07 subscribe ack */
     uint64_t start1, start2, count1, count2;         /* the two runs of options */
-    uint64_t service, instance, major, ttl;          /* a TTL of 0 takes the offer or subscription back (a refused one, in an ack) */
+    uint64_t service, instance, major, ttl;          /* TTL 0: an offer or a subscription is stopped, or (0x07) refused */
     uint64_t minor;                                  /* 0x00 and 0x01 */
     uint64_t initial_data, counter, eventgroup;      /* 0x06 and 0x07: a bit, four bits, the id */
     uint64_t reserved, spare;                        /*   byte 12 and three bits, as sent */

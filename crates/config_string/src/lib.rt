@@ -84,6 +84,7 @@ fn check_item(at: usize, size: u8, rest: &[u8]) -> Verdict
 {
     let n = size as usize;
     if rest.len() < n {
+        // written out and not by `refuse`: quicker (docs/SPEED.md)
         return Verdict::Refused(Refusal::ConfigurationString(StringError::ItemLengthExceedsRemaining {
             item_offset: at,
             item_length: size,
