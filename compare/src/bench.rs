@@ -17,6 +17,9 @@ use std::time::Instant;
 
 const PAYLOADS: usize = 10_000;
 
+/// Payloads with long keys, beside the mix.
+const LONG_KEYS: usize = 1_000;
+
 // ---- payloads in recorded style
 
 type Maker = fn(&mut Random) -> Vec<u8>;
@@ -43,20 +46,21 @@ fn push_ipv6(r: &mut Random, code: u8, out: &mut Vec<u8>) {
     out.extend_from_slice(&(r.next() as u16).to_be_bytes());
 }
 
-/// A string of `items` items: a key of 3 to 10 letters and a value of 0 to 20 bytes.
-fn push_configuration(r: &mut Random, items: usize, out: &mut Vec<u8>) {
-    let mut string = Vec::new();
-    for _ in 0..items {
-        let (key, value) = (r.between(3, 10), r.below(21));
-        string.push((key + 1 + value) as u8);
-        string.extend((0..key).map(|_| r.pick(b"abcdefghijklmnopqrstuvwxyz")));
-        string.push(b'=');
-        string.extend((0..value).map(|_| r.pick(b"abcdefghijklmnopqrstuvwxyz0123456789./")));
-    }
-    string.push(0);
-    out.extend_from_slice(&(1 + string.len() as u16).to_be_bytes());
+/// An item: a key of so many letters and a value of 0 to 20 bytes.
+fn push_item(r: &mut Random, key: usize, string: &mut Vec<u8>) {
+    let value = r.below(21);
+    string.push((key + 1 + value) as u8);
+    string.extend((0..key).map(|_| r.pick(b"abcdefghijklmnopqrstuvwxyz")));
+    string.push(b'=');
+    string.extend((0..value).map(|_| r.pick(b"abcdefghijklmnopqrstuvwxyz0123456789./")));
+}
+
+/// A configuration option of these items.
+fn push_configuration(items: &[u8], out: &mut Vec<u8>) {
+    out.extend_from_slice(&(2 + items.len() as u16).to_be_bytes());
     out.extend_from_slice(&[1, 0]);
-    out.extend_from_slice(&string);
+    out.extend_from_slice(items);
+    out.push(0);
 }
 
 fn push_entry(r: &mut Random, code: u8, start: usize, count: usize, out: &mut Vec<u8>) {
@@ -112,15 +116,33 @@ fn subscribe(r: &mut Random) -> Vec<u8> {
     lay(&entries, &options)
 }
 
-/// 1 to 5 offers, each with an endpoint and a configuration option of 1 to 8 items.
+/// 1 to 5 offers, each with an endpoint and a configuration option of 1 to 8 items with keys of 3 to 10 letters.
 fn configuration(r: &mut Random) -> Vec<u8> {
     let (mut entries, mut options) = (Vec::new(), Vec::new());
     for at in 0..r.between(1, 5) {
         push_ipv4(r, 0x04, &mut options);
-        let items = r.between(1, 8);
-        push_configuration(r, items, &mut options);
+        let mut items = Vec::new();
+        for _ in 0..r.between(1, 8) {
+            let key = r.between(3, 10);
+            push_item(r, key, &mut items);
+        }
+        push_configuration(&items, &mut options);
         push_entry(r, 0x01, 2 * at, 2, &mut entries);
     }
+    lay(&entries, &options)
+}
+
+/// An offer with a configuration option of 300 to 1,340 bytes, its keys of 30 to 120 letters.
+fn long_keys(r: &mut Random) -> Vec<u8> {
+    let (mut entries, mut options) = (Vec::new(), Vec::new());
+    let least = r.between(300, 1199);
+    let mut items = Vec::new();
+    while 5 + items.len() < least {
+        let key = r.between(30, 120);
+        push_item(r, key, &mut items);
+    }
+    push_configuration(&items, &mut options);
+    push_entry(r, 0x01, 0, 1, &mut entries);
     lay(&entries, &options)
 }
 
@@ -235,6 +257,11 @@ fn beside(
     (median(&mut first), median(&mut second))
 }
 
+/// Whether two figures for the same payloads are within a tenth of each other.
+fn alike(a: f64, b: f64) -> bool {
+    (a - b).abs() <= b / 10.0
+}
+
 fn row(name: &str, detail: &str, (theirs, ours): (f64, f64)) {
     println!(
         "| {name} | {detail} | {theirs:.0} | {ours:.0} | {:.2} |",
@@ -335,14 +362,29 @@ pub fn run<P: Calls>(port: &P, meter: &Meter, seed: u64) {
     );
     println!("|---|---|---|---|---|");
     let whole: Vec<&Vec<u8>> = payloads.iter().map(|(_, payload)| payload).collect();
-    row("whole mix", &size(&whole), reading(port, meter, &whole));
+    let measured = reading(port, meter, &whole);
+    row("whole mix", &size(&whole), measured);
+    let mut sums = (0.0, 0.0);
     for (number, (name, ..)) in KINDS.iter().enumerate() {
         let some: Vec<&Vec<u8>> = payloads
             .iter()
             .filter(|(kind, _)| *kind == number)
             .map(|(_, payload)| payload)
             .collect();
-        row(name, &size(&some), reading(port, meter, &some));
+        let (theirs, ours) = reading(port, meter, &some);
+        row(name, &size(&some), (theirs, ours));
+        sums.0 += theirs * some.len() as f64;
+        sums.1 += ours * some.len() as f64;
+    }
+    let weighted = (sums.0 / PAYLOADS as f64, sums.1 / PAYLOADS as f64);
+    row("the five kinds, weighted by number", &size(&whole), weighted);
+    let long: Vec<Vec<u8>> = (0..LONG_KEYS as u64)
+        .map(|number| long_keys(&mut Random::of(seed, family::LONG_KEYS, number)))
+        .collect();
+    let long: Vec<&Vec<u8>> = long.iter().collect();
+    row("long keys, not in the mix", &size(&long), reading(port, meter, &long));
+    if !(alike(measured.0, weighted.0) && alike(measured.1, weighted.1)) {
+        println!("\nThe whole mix is not what its kinds add up to: do not believe it, and run again on a quiet machine.");
     }
     let segments = report_segments();
     let in_order: Vec<&Vec<u8>> = segments.iter().collect();
@@ -383,6 +425,11 @@ mod tests {
             }
         }
         assert_eq!(KINDS.iter().map(|kind| kind.1).sum::<usize>(), 100);
+        for n in 0..500 {
+            let payload = long_keys(&mut Random::of(1, family::LONG_KEYS, n));
+            assert!(SdSlice::from_slice(&payload).is_ok());
+            assert!((300..=1340).contains(&(payload.len() - 12 - 16)));
+        }
         assert_eq!(report_segments().len(), 48);
     }
 }

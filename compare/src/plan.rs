@@ -32,4 +32,5 @@ pub mod family {
     pub const SHORT: u64 = 6;
     pub const RECORD: u64 = 7;
     pub const BENCH: u64 = 8;
+    pub const LONG_KEYS: u64 = 9;
 }

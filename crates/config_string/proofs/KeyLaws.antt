@@ -3,8 +3,8 @@ use Prim.Native.Nat.{ℕ, suc, _+_, _≤_, _<_}
 use native.Mathlib.Nat.{zero-add, add-zero}
 use native.Mathlib.Numerals.{add-one}
 use native.Mathlib.Omega.{arith}
-use mathlib.Core.Path.{_≡_, refl, ap, _∙_}
-use mathlib.Core.Bool.{Bool, true, false, _&&_}
+use mathlib.Core.Path.{_≡_, refl, sym, ap, _∙_}
+use mathlib.Core.Bool.{Bool, true, false, _&&_, false≢true}
 use mathlib.Core.List.{List, [], _∷_}
 use lib.Dec.{eqb}
 use lib.ListN.{length, getD, drop, drop-of-length-le}
@@ -13,7 +13,8 @@ use borrow.Author.Tests.{ne-eqb}
 use Rattle.numbers.specs.Refusals.{empty-key, invalid-key-byte, only-whitespace}
 use Rattle.numbers.specs.Answers.{Verdict, pass, refused, _>>_, refuse_when_else_}
 use Rattle.sd_format.specs.Strings.{key-of, judge-bytes, all-spaces, judge-key}
-use Rattle.config_string.specs.Keys.{key-byte, judge-end}
+use Rattle.config_string.specs.Classes.{key-byte}
+use Rattle.config_string.specs.Keys.{judge-end}
 
 -- the rest of a key, after `i` bytes of it that are no bad ones; `blank`: they are all spaces
 judge-rest : (item i : ℕ) → Bool → List ℕ → Verdict
@@ -68,9 +69,11 @@ module _ (item : ℕ) (s : List ℕ) (i : ℕ) (blank : Bool) (inside : i < leng
   key-goes-on other = rw (from-byte, ne-eqb _ _ other) refl
 
   -- any other byte belongs to it: a bad one is refused
-  pub left-bad : (getD s i 0 ≡ 0x3d → ⊥) → key-byte (getD s i 0) ≡ false → key-left item s i blank ≡ refused (invalid-key-byte item i (getD s i 0))
+  pub left-bad : key-byte (getD s i 0) ≡ false → key-left item s i blank ≡ refused (invalid-key-byte item i (getD s i 0))
   unfolding key-left
-  left-bad other bad = ap (judge-rest item i blank) (key-goes-on other) ∙ rest-bad item i blank (getD s i 0) (key-of (drop (i + 1) s)) bad
+  left-bad bad =
+      ap (judge-rest item i blank) (key-goes-on (λ equals. false≢true (sym bad ∙ ap key-byte equals)))
+      ∙ rest-bad item i blank (getD s i 0) (key-of (drop (i + 1) s)) bad
 
   -- and a good one is passed
   pub left-good : (getD s i 0 ≡ 0x3d → ⊥) → key-byte (getD s i 0) ≡ true → key-left item s i blank ≡ key-left item s (i + 1) (blank && eqb (getD s i 0) 0x20)

@@ -1,3 +1,4 @@
+pub mod ClassLaws
 pub mod KeyLaws
 pub mod ItemLaws
 pub mod ItemsHanded

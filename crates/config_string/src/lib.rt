@@ -1,17 +1,22 @@
 // The check of a configuration string: items of a length byte and that many bytes, closed by a zero length byte, which must be the last byte.
 // One function for each rule, all with the same answer; an item's bytes are looked at once, and no further than its key.
 // Below, `at` is the place of the item's length byte, which the errors give.
+mod classes; // classes.rt: the table of byte classes
+
+use classes::OUTSIDE;
+use classes::SPACE;
+use classes::byte_classes;
+use classes::class_of;
 use refusal::Count;
 use refusal::Refusal;
 use refusal::StringError;
 use refusal::Verdict;
 ghost use mathlib.Core.Path.{_≡_};
-ghost use mathlib.Core.Bool.{_&&_};
-ghost use lib.Dec.{eqb};
 ghost use Rattle.numbers.specs.Answers.{refused, given, part, verdict};
 ghost use Rattle.refusal.specs.Said.{string-said, verdict-said, count-said};
 ghost use Rattle.sd_format.specs.Strings.{key-of, judge-key, judge-item, closed, read-string};
-ghost use Rattle.config_string.specs.Keys.{key-byte, judge-end};
+ghost use Rattle.config_string.specs.Classes.{Classified};
+ghost use Rattle.config_string.specs.Keys.{judge-end};
 ghost use Rattle.config_string.specs.Items.{next-item, past};
 
 // A string refused by one of the six errors.
@@ -19,26 +24,6 @@ fn refuse(error: StringError) -> Verdict
     ensures { λ r. ⌜ verdict-said r ≡ refused (string-said error) ⌝ }
 {
     Verdict::Refused(Refusal::ConfigurationString(error))
-}
-
-// Whether `b` may stand in a key.
-fn is_key_byte(b: u8) -> bool
-    ensures { λ r. ⌜ r ≡ key-byte b ⌝ }
-{
-    if b < 0x20 {
-        return false;
-    }
-    b <= 0x7e
-}
-
-// Whether a key that was all spaces so far still is with `b`.
-fn still_blank(blank: bool, b: u8) -> bool
-    ensures { λ r. ⌜ r ≡ (blank && eqb b 0x20) ⌝ }
-{
-    if blank {
-        return b == 0x20;
-    }
-    false
 }
 
 // A key that ends after `len` bytes, each of them in 0x20 to 0x7e: it is neither empty nor all spaces.
@@ -55,31 +40,34 @@ fn check_end_of_key(at: usize, len: usize, blank: bool) -> Verdict
 }
 
 // The key of an item, what precedes the first `=`: empty, first bad byte, all spaces.
-fn check_key(at: usize, item: &[u8]) -> Verdict
+fn check_key(classes: &[u8; 256], at: usize, item: &[u8]) -> Verdict
+    requires { ⌜ Classified (now classes) ⌝ }
     ensures { λ r. ⌜ verdict-said r ≡ judge-key at (key-of (now (item .entry))) ⌝ }
 {
-    let mut blank = true;
+    let mut seen = SPACE; // while all bytes are spaces, and OTHER_PRINTABLE from the first that is not
     let mut i: usize = 0;
     while i < item.len() {
         let b = item[i];
-        if b == 0x3d {
-            return check_end_of_key(at, i, blank);
+        let class = class_of(classes, b);
+        if class < SPACE {
+            if class == OUTSIDE {
+                return refuse(StringError::InvalidKeyByte {
+                    item_offset: at,
+                    byte_offset: i,
+                    value: b,
+                });
+            }
+            return check_end_of_key(at, i, seen == SPACE);
         }
-        if !is_key_byte(b) {
-            return refuse(StringError::InvalidKeyByte {
-                item_offset: at,
-                byte_offset: i,
-                value: b,
-            });
-        }
-        blank = still_blank(blank, b);
+        seen = seen | class;
         i += 1;
     }
-    check_end_of_key(at, i, blank)
+    check_end_of_key(at, i, seen == SPACE)
 }
 
 // An item, with what follows its length byte: it is no longer than that, then its key.
-fn check_item(at: usize, size: u8, rest: &[u8]) -> Verdict
+fn check_item(classes: &[u8; 256], at: usize, size: u8, rest: &[u8]) -> Verdict
+    requires { ⌜ Classified (now classes) ⌝ }
     ensures { λ r. ⌜ verdict-said r ≡ judge-item at size (now (rest .entry)) ⌝ }
 {
     let n = size as usize;
@@ -91,7 +79,7 @@ fn check_item(at: usize, size: u8, rest: &[u8]) -> Verdict
             remaining: rest.len(),
         }));
     }
-    check_key(at, &rest[..n])
+    check_key(classes, at, &rest[..n])
 }
 
 // The terminator, with what follows it: nothing may.
@@ -110,6 +98,7 @@ fn check_terminator(at: usize, rest: &[u8]) -> Verdict
 pub fn check_string(s: &[u8]) -> Verdict
     ensures { λ r. ⌜ verdict-said r ≡ verdict (read-string (now (s .entry))) ⌝ }
 {
+    let classes = byte_classes();
     let mut at: usize = 0;
     while at < s.len() {
         let size = s[at];
@@ -117,7 +106,7 @@ pub fn check_string(s: &[u8]) -> Verdict
         if size == 0 {
             return check_terminator(at, &s[start..]);
         }
-        let answer = check_item(at, size, &s[start..]);
+        let answer = check_item(&classes, at, size, &s[start..]);
         let Verdict::Passed = answer else {
             return answer;
         };
@@ -140,7 +129,8 @@ pub fn next_item(s: &[u8], at: usize) -> Count
         return Count::Refused(Refusal::NothingThere);
     }
     let start = at + 1;
-    let answer = check_item(at, size, &s[start..]);
+    let classes = byte_classes();
+    let answer = check_item(&classes, at, size, &s[start..]);
     let Verdict::Passed = answer else {
         return Count::Refused(answer.refusal());
     };

@@ -18,20 +18,20 @@ use Rattle.config_string.proofs.check_string.Statement.{statement}
 use Rattle.config_string.proofs.check_string.Tie as tie
 
 abbrev Inv-loop : tie.InvT-loop
-Inv-loop s at₀ at = verdict (read-string s) ≡ verdict (items-left s at)
+Inv-loop s classes at₀ at = verdict (read-string s) ≡ verdict (items-left s at)
 
 abbrev μ-loop : tie.MeasureT-loop
-μ-loop s at₀ at = length s - at
+μ-loop s classes at₀ at = length s - at
 
 loop-holds : tie.Need-loop-holds Inv-loop μ-loop
-loop-holds c = ap verdict (left-whole (c .before .args .s .now))
+loop-holds c = ap verdict (left-whole (c .before .before .args .s .now))
 
 returns : tie.Need-returns Inv-loop μ-loop
 returns c =
     let last = c .before .before in
     let turn = last .before .before in
     let top = turn .before in
-    let s = top .before .before .args .s .now in
+    let s = top .before .before .before .args .s .now in
     let at = top .loop .at in
     c .check-terminator .ensures
     ∙ ap (λ (rest : List ℕ). verdict (closed at rest)) (take-rest s (at + 1))
@@ -40,10 +40,10 @@ returns c =
 -- what the item's answer says
 module _ (c : tie.After-check-item Inv-loop μ-loop) where
   abbrev turn : tie.In-loop Inv-loop μ-loop
-  turn = c .before .before .before .before
+  turn = c .before .before .before .before .before
 
   abbrev s : List ℕ
-  s = turn .before .before .before .args .s .now
+  s = turn .before .before .before .before .args .s .now
 
   abbrev at : ℕ
   at = turn .before .loop .at
@@ -58,7 +58,7 @@ returns-2 : tie.Need-returns-2 Inv-loop μ-loop
 unfolding given
 returns-2 c =
     let item = c .before .before in
-    let some = item .before .before .if1 .left in
+    let some = item .before .before .before .if1 .left in
     let told = c .enum-told2 .given in
     ap verdict-said (told .1)
     ∙ sym (turn item .before .loop .inv
@@ -73,14 +73,14 @@ add-at c = omega (arith, item-within (c .before .before) (c .enum-told .given .1
 loop-again : tie.Need-loop-again Inv-loop μ-loop
 loop-again c =
     let item = c .before .before in
-    let some = item .before .before .if1 .left in
+    let some = item .before .before .before .if1 .left in
     turn item .before .loop .inv ∙ left-good (s item) (at item) (turn item .loop-test .taken) some (item-judged item _ (c .enum-told .given .1))
 
 returns-3 : tie.Need-returns-3 Inv-loop μ-loop
 unfolding given
 returns-3 c =
     let top = c .before .before in
-    c .refuse .ensures ∙ sym (top .loop .inv ∙ ap verdict (left-end (top .before .before .args .s .now) (top .loop .at) (c .before .loop-test .left)))
+    c .refuse .ensures ∙ sym (top .loop .inv ∙ ap verdict (left-end (top .before .before .before .args .s .now) (top .loop .at) (c .before .loop-test .left)))
 
 pub check-string-spec : {M : Type 1} → statement M
 check-string-spec =
@@ -88,6 +88,7 @@ check-string-spec =
     (tie.spec
     Inv-loop
     μ-loop
+    (λ c κs. search needs)
     loop-holds
     (λ c. search needs)
     (λ c. search needs)

@@ -31,7 +31,7 @@ returns-2 c =
 -- what the item's answer says
 module _ (c : tie.After-check-item) where
   abbrev some : tie.Else2
-  some = c .before .before
+  some = c .before .before .before .before
 
   abbrev there : tie.Else1
   there = some .before .before
@@ -56,11 +56,11 @@ returns-3 c =
     ap (λ r. refused (said r)) (c .refusal .ensures ∙ ap verdict-refusal (told .1))
     ∙ sym (ap (given (past (at item))) (next-bad (s item) (at item) (there item .if1 .left) (some item .if2 .left) _ (item-judged item _ (told .1))))
 
-cast-t6 : tie.Need-cast-t6
-cast-t6 c = omega (arith, item-within (c .before .before) (c .enum-told .given .1))
+cast-t7 : tie.Need-cast-t7
+cast-t7 c = omega (arith, item-within (c .before .before) (c .enum-told .given .1))
 
-add-t16 : tie.Need-add-t16
-add-t16 c = omega (arith, item-within (c .before .before) (c .enum-told .given .1))
+add-t19 : tie.Need-add-t19
+add-t19 c = omega (arith, item-within (c .before .before) (c .enum-told .given .1))
 
 returns-4 : tie.Need-returns-4
 unfolding given
@@ -78,6 +78,7 @@ next-item-spec =
     (λ c. search needs)
     returns-2
     (λ c. search needs)
+    (λ c κs. search needs)
     (λ c. search needs)
     (λ c. search needs)
     (λ c. search needs)
@@ -86,6 +87,6 @@ next-item-spec =
     (λ c. search needs)
     (λ c κs. search needs)
     returns-3
-    cast-t6
-    add-t16
+    cast-t7
+    add-t19
     returns-4)

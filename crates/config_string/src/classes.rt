@@ -1,0 +1,46 @@
+// The classes of bytes that a key is judged by: outside 0x20 to 0x7e, the equals sign, the space, any other printable byte.
+ghost use mathlib.Core.Path.{_≡_};
+ghost use Rattle.config_string.specs.Classes.{class-of, Classified};
+
+// Digits, so that the table is text. The two that end a key are the lowest: one test a byte finds either (docs/SPEED.md).
+pub(crate) const OUTSIDE: u8 = b'0';
+
+pub(crate) const EQUALS_SIGN: u8 = b'1';
+
+pub(crate) const SPACE: u8 = b'2';
+
+pub(crate) const OTHER_PRINTABLE: u8 = b'3';
+
+// The class of each byte, sixteen bytes to a line.
+const CLASSES: [u8; 256] = *b"\
+    0000000000000000\
+    0000000000000000\
+    2333333333333333\
+    3333333333333133\
+    3333333333333333\
+    3333333333333333\
+    3333333333333333\
+    3333333333333330\
+    0000000000000000\
+    0000000000000000\
+    0000000000000000\
+    0000000000000000\
+    0000000000000000\
+    0000000000000000\
+    0000000000000000\
+    0000000000000000";
+
+// The table, to be lent to `class_of`. It is made once for many bytes: a constant that is indexed is made anew at each use (docs/SPEED.md).
+pub(crate) fn byte_classes() -> [u8; 256]
+    ensures { λ r. ⌜ Classified r ⌝ }
+{
+    CLASSES
+}
+
+// The class of a byte.
+pub(crate) fn class_of(classes: &[u8; 256], b: u8) -> u8
+    requires { ⌜ Classified (now classes) ⌝ }
+    ensures { λ r. ⌜ r ≡ class-of b ⌝ }
+{
+    classes[b as usize]
+}
