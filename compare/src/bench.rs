@@ -17,8 +17,8 @@ use std::time::Instant;
 
 const PAYLOADS: usize = 10_000;
 
-/// Payloads with long keys, beside the mix.
-const LONG_KEYS: usize = 1_000;
+/// Of each kind beside the mix.
+const FEWER: usize = 1_000;
 
 // ---- payloads in recorded style
 
@@ -31,6 +31,12 @@ const KINDS: [(&str, usize, Maker); 5] = [
     ("configuration", 15, configuration),
     ("many small options", 10, many_small),
     ("refused", 10, refused),
+];
+
+/// Kinds that are not in the mix: the ends of what a configuration string can be.
+const BESIDE: [(&str, u64, Maker); 2] = [
+    ("long keys", family::LONG_KEYS, long_keys),
+    ("one short item", family::SHORT_ITEM, short_item),
 ];
 
 fn push_ipv4(r: &mut Random, code: u8, out: &mut Vec<u8>) {
@@ -132,18 +138,31 @@ fn configuration(r: &mut Random) -> Vec<u8> {
     lay(&entries, &options)
 }
 
-/// An offer with a configuration option of 300 to 1,340 bytes, its keys of 30 to 120 letters.
-fn long_keys(r: &mut Random) -> Vec<u8> {
+/// An offer with one configuration option of these items.
+fn configured(r: &mut Random, items: &[u8]) -> Vec<u8> {
     let (mut entries, mut options) = (Vec::new(), Vec::new());
+    push_configuration(items, &mut options);
+    push_entry(r, 0x01, 0, 1, &mut entries);
+    lay(&entries, &options)
+}
+
+/// The option has 300 to 1,340 bytes, its keys 30 to 120 letters.
+fn long_keys(r: &mut Random) -> Vec<u8> {
     let least = r.between(300, 1199);
     let mut items = Vec::new();
     while 5 + items.len() < least {
         let key = r.between(30, 120);
         push_item(r, key, &mut items);
     }
-    push_configuration(&items, &mut options);
-    push_entry(r, 0x01, 0, 1, &mut entries);
-    lay(&entries, &options)
+    configured(r, &items)
+}
+
+/// The option has one item, its key 3 to 10 letters.
+fn short_item(r: &mut Random) -> Vec<u8> {
+    let mut items = Vec::new();
+    let key = r.between(3, 10);
+    push_item(r, key, &mut items);
+    configured(r, &items)
 }
 
 /// 20 to 300 options of 4 to 8 bytes, half of them load balancing, over 1 to 10 entries.
@@ -377,12 +396,19 @@ pub fn run<P: Calls>(port: &P, meter: &Meter, seed: u64) {
         sums.1 += ours * some.len() as f64;
     }
     let weighted = (sums.0 / PAYLOADS as f64, sums.1 / PAYLOADS as f64);
-    row("the five kinds, weighted by number", &size(&whole), weighted);
-    let long: Vec<Vec<u8>> = (0..LONG_KEYS as u64)
-        .map(|number| long_keys(&mut Random::of(seed, family::LONG_KEYS, number)))
-        .collect();
-    let long: Vec<&Vec<u8>> = long.iter().collect();
-    row("long keys, not in the mix", &size(&long), reading(port, meter, &long));
+    row(
+        "the five kinds, weighted by number",
+        &size(&whole),
+        weighted,
+    );
+    for (name, family, make) in BESIDE {
+        let made: Vec<Vec<u8>> = (0..FEWER as u64)
+            .map(|number| make(&mut Random::of(seed, family, number)))
+            .collect();
+        let some: Vec<&Vec<u8>> = made.iter().collect();
+        let name = format!("{name}, not in the mix");
+        row(&name, &size(&some), reading(port, meter, &some));
+    }
     if !(alike(measured.0, weighted.0) && alike(measured.1, weighted.1)) {
         println!("\nThe whole mix is not what its kinds add up to: do not believe it, and run again on a quiet machine.");
     }
@@ -425,10 +451,13 @@ mod tests {
             }
         }
         assert_eq!(KINDS.iter().map(|kind| kind.1).sum::<usize>(), 100);
-        for n in 0..500 {
-            let payload = long_keys(&mut Random::of(1, family::LONG_KEYS, n));
-            assert!(SdSlice::from_slice(&payload).is_ok());
-            assert!((300..=1340).contains(&(payload.len() - 12 - 16)));
+        for (name, family, make) in BESIDE {
+            for n in 0..500 {
+                let payload = make(&mut Random::of(1, family, n));
+                let option = payload.len() - 12 - 16;
+                assert!(SdSlice::from_slice(&payload).is_ok(), "{name}");
+                assert_eq!((300..=1340).contains(&option), name == "long keys");
+            }
         }
         assert_eq!(report_segments().len(), 48);
     }

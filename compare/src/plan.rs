@@ -33,4 +33,5 @@ pub mod family {
     pub const RECORD: u64 = 7;
     pub const BENCH: u64 = 8;
     pub const LONG_KEYS: u64 = 9;
+    pub const SHORT_ITEM: u64 = 10;
 }
