@@ -6,6 +6,7 @@ use mathlib.Core.List.{List}
 use lib.ListN.{getD}
 use lib.Dec.{eqb, leb}
 
+-- the four classes, numbered by the digits that the table is written in
 abbrev pub outside : ℕ
 outside = 0x30
 

@@ -1,8 +1,10 @@
-// The classes of bytes that a key is judged by: outside 0x20 to 0x7e, the equals sign, the space, any other printable byte.
+// The classes of bytes that a key is judged by: outside 0x20 to 0x7e, the equals sign, the space, any other printable byte. The class rule is
+// proved once, over the whole table (`byte_classes`), and carried from there to each byte (`class_of`).
 ghost use mathlib.Core.Path.{_≡_};
 ghost use Rattle.config_string.specs.Classes.{class-of, Classified};
 
-// Digits, so that the table is text. The two that end a key are the lowest: one test a byte finds either (docs/SPEED.md).
+// Digits, so that the table is text. The two that end a key are the lowest, so that one test a byte finds either; joined bit by bit, a space and
+// another printable byte are that other one (docs/SPEED.md).
 pub(crate) const OUTSIDE: u8 = b'0';
 
 pub(crate) const EQUALS_SIGN: u8 = b'1';
@@ -30,7 +32,7 @@ const CLASSES: [u8; 256] = *b"\
     0000000000000000\
     0000000000000000";
 
-// The table, to be lent to `class_of`. It is made once for many bytes: a constant that is indexed is made anew at each use (docs/SPEED.md).
+// The table, to be lent to `class_of`: made once for many bytes, since a constant that is indexed is made anew at each use (docs/SPEED.md).
 pub(crate) fn byte_classes() -> [u8; 256]
     ensures { λ r. ⌜ Classified r ⌝ }
 {
