@@ -654,6 +654,33 @@ pub fn string(r: &mut Random, out: &mut Vec<u8>) {
     }
 }
 
+/// A string of 1 to 4 items of 1 to 255 bytes, one in four of nothing but spaces, with up to three bytes anywhere in an item at which the check turns;
+/// one in eight is cut.
+pub fn long_string(r: &mut Random, out: &mut Vec<u8>) {
+    out.clear();
+    for _ in 0..r.between(1, 4) {
+        let length = r.between(1, 255);
+        let letters: &[u8] = r.pick(&[
+            b" ",
+            b"abcdefghijklm",
+            b"nopqrstuvwxyz",
+            b"0123456789-_.~ !Z",
+        ]);
+        out.push(length as u8);
+        let first = out.len();
+        out.extend((0..length).map(|_| r.pick(letters)));
+        for _ in 0..r.below(4) {
+            out[first + r.below(length)] =
+                r.pick(&[0, 0x1f, 0x20, 0x21, 0x3d, 0x3d, 0x7e, 0x7f, 0x80, 0xff]);
+        }
+    }
+    out.push(0);
+    if r.once_in(8) {
+        let some = r.below(out.len());
+        out.truncate(some);
+    }
+}
+
 // ---- exhaustive short inputs
 
 /// The bytes at which a string check turns: lengths, both ends of the key range, the space and the `=`.

@@ -34,4 +34,5 @@ pub mod family {
     pub const BENCH: u64 = 8;
     pub const LONG_KEYS: u64 = 9;
     pub const SHORT_ITEM: u64 = 10;
+    pub const LONG_STRING: u64 = 11;
 }

@@ -26,6 +26,7 @@ pub enum Fault {
     RunStopsEarly,
     PortBytesSwapped,
     DeleteInKeyAccepted,
+    FarKeyByteMissed,
     ItemWithItsLength,
     InputDamaged,
     SegmentSwallowed,
@@ -44,7 +45,7 @@ pub enum Fault {
 use Fault::*;
 
 /// All faults: those of service discovery, then those of a stream.
-const SERVICE_DISCOVERY: [Fault; 21] = [
+const SERVICE_DISCOVERY: [Fault; 22] = [
     NeededLengthOffByOne,
     RefusalsRenumbered,
     TableShifted,
@@ -64,6 +65,7 @@ const SERVICE_DISCOVERY: [Fault; 21] = [
     RunStopsEarly,
     PortBytesSwapped,
     DeleteInKeyAccepted,
+    FarKeyByteMissed,
     ItemWithItsLength,
     InputDamaged,
 ];
@@ -193,6 +195,13 @@ impl<P: Calls> Calls for Faulty<'_, P> {
     fn string(&self, string: &[u8]) -> Answer {
         let answer = self.inner.string(string);
         if self.is(DeleteInKeyAccepted) && answer.number == 9 && answer.values[3] == 0x7f {
+            return Answer::default();
+        }
+        if self.is(FarKeyByteMissed)
+            && answer.number == 9
+            && answer.values[0] == 5
+            && answer.values[2] >= 128
+        {
             return Answer::default();
         }
         answer

@@ -83,6 +83,13 @@ fn one_alone<P: Calls>(sd: &mut Sd<P>, seed: u64, number: u64, out: &mut Vec<u8>
     sd.string(out);
 }
 
+/// A string with long items alone.
+fn one_long_string<P: Calls>(sd: &mut Sd<P>, seed: u64, number: u64, out: &mut Vec<u8>) {
+    let mut r = Random::of(seed, family::LONG_STRING, number);
+    inputs::long_string(&mut r, out);
+    sd.string(out);
+}
+
 /// Tables that no index filled.
 fn one_foreign<P: Calls>(sd: &mut Sd<P>, seed: u64, number: u64, out: &mut Vec<u8>) {
     let mut r = Random::of(seed, family::FOREIGN, number);
@@ -242,6 +249,7 @@ pub fn service_discovery<P: Calls>(port: &P, plan: &Plan) -> Tally {
     let mut whole = with_sd(port, plan, plan.payloads, one_payload);
     whole.add(with_sd(port, plan, plan.payloads / 10, one_index));
     whole.add(with_sd(port, plan, plan.payloads / 10, one_alone));
+    whole.add(with_sd(port, plan, plan.payloads / 10, one_long_string));
     whole.add(with_sd(port, plan, plan.payloads / 50, one_foreign));
     if plan.exhaustive > Exhaustive::None {
         whole.add(all_strings(port, plan));
