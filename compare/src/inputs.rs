@@ -654,8 +654,8 @@ pub fn string(r: &mut Random, out: &mut Vec<u8>) {
     }
 }
 
-/// A string of 1 to 4 items of 1 to 255 bytes, one in four of nothing but spaces, with up to three bytes anywhere in an item at which the check turns;
-/// one in eight is cut.
+/// A string of 1 to 4 items of 1 to 255 bytes, one item in four of spaces, with up to three bytes anywhere in an item at which the check turns; one
+/// string in eight is cut.
 pub fn long_string(r: &mut Random, out: &mut Vec<u8>) {
     out.clear();
     for _ in 0..r.between(1, 4) {

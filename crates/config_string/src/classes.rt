@@ -1,17 +1,13 @@
-// The classes of bytes that a key is judged by: outside 0x20 to 0x7e, the equals sign, the space, any other printable byte. The class rule is
-// proved once, over the whole table (`byte_classes`), and carried from there to each byte (`class_of`).
+// The classes of bytes that a key is judged by. The class rule is proved once, over the whole table (`byte_classes`), and carried from there to each
+// byte (`class_of`).
 ghost use mathlib.Core.Path.{_≡_};
 ghost use Rattle.config_string.specs.Classes.{class-of, Classified};
 
-// Digits, so that the table is text. The two that end a key are the lowest, so that one test a byte finds either; joined bit by bit, a space and
-// another printable byte are that other one (docs/SPEED.md).
+// The classes are digits, so that the table is text: 0 outside 0x20 to 0x7e, 1 the equals sign, 2 the space, 3 any other printable byte. The two that
+// end a key are the lowest, so that one test a byte finds either; and 2 and 3 joined bit by bit are 3 (docs/SPEED.md).
 pub(crate) const OUTSIDE: u8 = b'0';
 
-pub(crate) const EQUALS_SIGN: u8 = b'1';
-
 pub(crate) const SPACE: u8 = b'2';
-
-pub(crate) const OTHER_PRINTABLE: u8 = b'3';
 
 // The class of each byte, sixteen bytes to a line.
 const CLASSES: [u8; 256] = *b"\

@@ -44,7 +44,7 @@ fn check_key(classes: &[u8; 256], at: usize, item: &[u8]) -> Verdict
     requires { ⌜ Classified (now classes) ⌝ }
     ensures { λ r. ⌜ verdict-said r ≡ judge-key at (key-of (now (item .entry))) ⌝ }
 {
-    let mut seen = SPACE; // as long as every byte is one; OTHER_PRINTABLE from the first that is none
+    let mut seen = SPACE; // as long as every byte is one
     let mut i: usize = 0;
     while i < item.len() {
         let b = item[i];
