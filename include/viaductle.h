@@ -31,9 +31,9 @@ extern "C" {
 /* ---- answers */
 
 /* As many values as an answer has at most. */
-#define VIADUCTLE_VALUES 4
+#define VIADUCTLE_VALUES 5
 
-/* 0 for accepted, or the number of the first refusal; and the values that come with it, in order. Places that are not used hold 0. */
+/* 0 for accepted, or the number of the first refusal; and the values that come with it, in order; those that are not used hold 0. */
 typedef struct {
     uint64_t number;
     uint64_t values[VIADUCTLE_VALUES];
@@ -48,10 +48,10 @@ enum viaductle_number {
     VIADUCTLE_OPTIONS_LENGTH_TOO_LARGE = 4,  /* length: above 1,388 */
     VIADUCTLE_PAYLOAD_TOO_LARGE = 5,         /* length: above 1,400 */
     VIADUCTLE_PAYLOAD_LENGTH_MISMATCH = 6,   /* expected, actual */
-    VIADUCTLE_OPTION_LENGTH = 7,             /* needed, had, source: 0 the slice, 1 the option's length */
-    VIADUCTLE_OPTION_LENGTH_ZERO = 8,        /* none */
-    VIADUCTLE_CONFIGURATION_STRING = 9,      /* which error (below), its numbers */
-    VIADUCTLE_UNKNOWN_OPTION = 10,           /* type: unknown, and not to be discarded */
+    VIADUCTLE_OPTION_LENGTH = 7,             /* needed, had, source (0 the slice, 1 the option's length), place */
+    VIADUCTLE_OPTION_LENGTH_ZERO = 8,        /* place */
+    VIADUCTLE_CONFIGURATION_STRING = 9,      /* which error (below), its numbers, place */
+    VIADUCTLE_UNKNOWN_OPTION = 10,           /* type (unknown, and not to be discarded), place */
     VIADUCTLE_UNKNOWN_ENTRY = 11,            /* type */
     VIADUCTLE_RUN_OUT_OF_BOUNDS = 12,        /* run (1 or 2), start, count, options */
     VIADUCTLE_INDEX_TOO_LARGE = 13,          /* length: above 1,388 */
@@ -75,17 +75,31 @@ enum viaductle_number {
     VIADUCTLE_MALFORMED_STATE = 38           /* none */
 };
 
-/* 9's first value, and the numbers behind it. `item` is where the item's length byte stands in the string. */
+/* 9's first value, and the numbers behind it. `item` is where the item's length byte stands in the string, counted from the string's first byte
+ * whichever function tells it. */
 enum viaductle_string_error {
-    VIADUCTLE_MISSING_TERMINATOR = 1,               /* none */
-    VIADUCTLE_ITEM_LENGTH_EXCEEDS_REMAINING = 2,    /* item, item length, bytes remaining */
-    VIADUCTLE_TRAILING_DATA_AFTER_TERMINATOR = 3,   /* where the terminator stands */
-    VIADUCTLE_EMPTY_KEY = 4,                        /* item */
-    VIADUCTLE_INVALID_KEY_BYTE = 5,                 /* item, place of the byte in the item, its value */
-    VIADUCTLE_KEY_CONTAINS_ONLY_WHITESPACE = 6      /* item */
+    VIADUCTLE_MISSING_TERMINATOR = 1,               /* place */
+    VIADUCTLE_ITEM_LENGTH_EXCEEDS_REMAINING = 2,    /* item, item length, bytes remaining, place */
+    VIADUCTLE_TRAILING_DATA_AFTER_TERMINATOR = 3,   /* where the terminator stands in the string, place */
+    VIADUCTLE_EMPTY_KEY = 4,                        /* item, place */
+    VIADUCTLE_INVALID_KEY_BYTE = 5,                 /* item, which byte of the item from 0, its value, place */
+    VIADUCTLE_KEY_CONTAINS_ONLY_WHITESPACE = 6      /* item, place */
 };
 
-/* A number in words, for a log; of 9, `viaductle_string_name` of values[0] says more. Neither is in the library. */
+/* The place, which is the last value of 7, 8, 9 and 10, is the byte at which it went wrong, counted from 0:
+ *   7 and 8: the option's first byte;
+ *   9: the first byte of the item at fault, which is its length byte; the terminator, where bytes follow it; the string's end, one past its last
+ *      byte, where it has no terminator;
+ *   10: the byte with the discardable bit, which is the option's fourth.
+ * It is counted from
+ *   the first byte of the options part by `viaductle_read`, `viaductle_read_message` and `viaductle_index`. In a payload that is its byte 12 plus
+ *      the entries length, and in a message 16 bytes more;
+ *   the option's own first byte by `viaductle_next_option` and `viaductle_read_option`: 0 for 7 and 8, and for 9, whose string begins at the
+ *      option's byte 4, at least 4;
+ *   the string's first byte by `viaductle_string` and `viaductle_next_item`. */
+
+/* A number in words, for a log; of 9, `viaductle_string_name` of values[0] says more, and `viaductle_place` tells the place where there is one.
+ * None of the three is in the library. */
 static inline const char *viaductle_name(uint64_t number) {
     switch (number) {
     case VIADUCTLE_ACCEPTED: return "accepted";
@@ -136,6 +150,30 @@ static inline const char *viaductle_string_name(uint64_t error) {
     }
 }
 
+/* 1, and the place that this refusal tells; or 0, and `*place` is as it was. */
+static inline int viaductle_place(uint64_t number, const uint64_t values[VIADUCTLE_VALUES], uint64_t *place) {
+    size_t last;
+    switch (number) {
+    case VIADUCTLE_OPTION_LENGTH: last = 3; break;
+    case VIADUCTLE_OPTION_LENGTH_ZERO: last = 0; break;
+    case VIADUCTLE_UNKNOWN_OPTION: last = 1; break;
+    case VIADUCTLE_CONFIGURATION_STRING:
+        switch (values[0]) {
+        case VIADUCTLE_MISSING_TERMINATOR: last = 1; break;
+        case VIADUCTLE_TRAILING_DATA_AFTER_TERMINATOR:
+        case VIADUCTLE_EMPTY_KEY:
+        case VIADUCTLE_KEY_CONTAINS_ONLY_WHITESPACE: last = 2; break;
+        case VIADUCTLE_ITEM_LENGTH_EXCEEDS_REMAINING:
+        case VIADUCTLE_INVALID_KEY_BYTE: last = 4; break;
+        default: return 0;
+        }
+        break;
+    default: return 0;
+    }
+    *place = values[last];
+    return 1;
+}
+
 /* ---- service discovery: whole payloads */
 
 /* Slots of the table that reading fills with the options' byte offsets. */
@@ -184,7 +222,7 @@ viaductle_answer viaductle_lookup(const uint8_t *options, size_t len, const uint
 
 /* The option that starts at byte `at` of the options part, its string scanned. To go through all: begin at 0, and go on at values[1]
  * + values[2].
- *   0: as `viaductle_lookup`. 20 with no bytes left, otherwise 7, 8, 9. */
+ *   0: as `viaductle_lookup`. 20 with no bytes left, otherwise 7, 8, 9, their place counted from `at`. */
 viaductle_answer viaductle_next_option(const uint8_t *options, size_t len, size_t at);
 
 /* The next option of a run, of which `left` are left, the next of number `next`. To go through a run of an entry: begin with its start and
@@ -198,7 +236,8 @@ viaductle_answer viaductle_string(const uint8_t *string, size_t len);
 /* The item whose length byte is byte `at` of a configuration string, its key judged. To go through all: begin at 0, and go on at values[0] +
  * values[1].
  *   0: values[0] = where its bytes start (at + 1), values[1] = how many they are. Its key is what stands before the first '=', or all of them.
- *   20 at the closing zero byte, whatever is behind it, and with no bytes left; otherwise 9. */
+ *   20 at the closing zero byte, whatever is behind it, and with no bytes left; otherwise 9, its item and its place counted from the string's
+ *   first byte, not from `at`. */
 viaductle_answer viaductle_next_item(const uint8_t *string, size_t len, size_t at);
 
 /* One option with its fields: those that its kind has not hold 0, and so do all after a refusal. */
@@ -214,7 +253,7 @@ typedef struct {
     uint64_t string_at, string_len;                  /* configuration (0x01): the string */
 } viaductle_option;
 
-/* The option in front of these bytes, its string scanned; later bytes are not read. 7, 8, 9. */
+/* The option in front of these bytes, its string scanned; later bytes are not read. 7, 8, 9, their place counted from its first byte. */
 viaductle_option viaductle_read_option(const uint8_t *option, size_t len);
 
 /* ---- service discovery: the entries part */

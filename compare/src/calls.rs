@@ -2,7 +2,7 @@
 //! `port.rs` answers them by the exported functions; `sabotage.rs` by those with a fault.
 
 /// As many values as an answer has at most.
-pub const VALUES: usize = 4;
+pub const VALUES: usize = 5;
 
 /// The rules' number, 0 for accepted, and its values in order; unused ones are 0.
 #[derive(Clone, Copy, Debug, Default, PartialEq, Eq)]
@@ -30,18 +30,27 @@ impl Answer {
     /// How many values the rules give with this number (nothing is said of 0, which differs by call).
     pub fn value_count(self) -> usize {
         match self.number {
-            8 | 16 | 20 | 21 | 30 | 35 | 37 | 38 => 0,
-            1..=5 | 10 | 11 | 13..=15 | 17..=19 | 22 | 34 | 36 => 1,
-            6 | 32 | 33 => 2,
-            7 | 31 => 3,
+            16 | 20 | 21 | 30 | 35 | 37 | 38 => 0,
+            1..=5 | 8 | 11 | 13..=15 | 17..=19 | 22 | 34 | 36 => 1,
+            6 | 10 | 32 | 33 => 2,
+            31 => 3,
             9 => match self.values[0] {
-                1 => 1,
-                3 | 4 | 6 => 2,
-                _ => 4,
+                1 => 2,
+                3 | 4 | 6 => 3,
+                _ => 5,
             },
-            12 => 4,
+            7 | 12 => 4,
             _ => VALUES,
         }
+    }
+
+    /// The place that 7 to 10 tell: the last of their values.
+    pub fn place(&mut self) -> Option<&mut u64> {
+        if !(7..=10).contains(&self.number) {
+            return None;
+        }
+        let last = self.value_count() - 1;
+        Some(&mut self.values[last])
     }
 }
 

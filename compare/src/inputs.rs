@@ -1,6 +1,7 @@
 //! Seeded inputs for the service discovery side: payloads of many families, messages with SD header, options parts, strings, and the
 //! exhaustive short ones. An input is a function of the seed, its family and its number, so that each can be made again.
 
+use crate::places::Cause;
 use crate::random::Random;
 use someip_parse::sd::entries::{EventGroupEntryType, SdServiceEntryType};
 use someip_parse::sd::options::*;
@@ -49,6 +50,11 @@ fn push_option(r: &mut Random, code: u8, length: usize, first: u8, out: &mut Vec
 
 /// A configuration string of some good items.
 pub fn good_string(r: &mut Random, items: usize, out: &mut Vec<u8>) {
+    good_items(r, items, out);
+    out.push(0);
+}
+
+fn good_items(r: &mut Random, items: usize, out: &mut Vec<u8>) {
     for _ in 0..items {
         let key = r.between(1, 10);
         let value = if r.once_in(3) {
@@ -69,7 +75,43 @@ pub fn good_string(r: &mut Random, items: usize, out: &mut Vec<u8>) {
             r.bytes(length, out);
         }
     }
-    out.push(0);
+}
+
+/// A string that is refused by this one of the six errors, in front or behind some good items.
+fn bad_string(r: &mut Random, error: u64, out: &mut Vec<u8>) {
+    let items = r.below(4);
+    good_items(r, items, out);
+    let mut item = Vec::new();
+    match error {
+        1 => return,
+        2 => {
+            let (some, missing) = (r.below(6), r.between(1, 100));
+            out.push((some + missing) as u8);
+            return r.bytes(some, out);
+        }
+        3 => {
+            let behind = r.between(1, 5);
+            out.push(0);
+            return r.bytes(behind, out);
+        }
+        4 => item.push(b'='),
+        5 => {
+            let key = r.between(1, 8);
+            item.extend((0..key).map(|_| r.pick(b"abcXYZ 019~")));
+            item[r.below(key)] = r.pick(&[0, 1, 0x1f, 0x7f, 0x80, 0xff]);
+        }
+        _ => item.resize(r.between(1, 8), b' '),
+    }
+    if r.once_in(2) {
+        let value = r.below(4);
+        item.push(b'=');
+        r.bytes(value, &mut item);
+    }
+    out.push(item.len() as u8);
+    out.extend(item);
+    // What is behind the item is not looked at.
+    let items = r.below(3);
+    good_string(r, items, out);
 }
 
 /// A good string with a few bytes changed, cut or added.
@@ -160,6 +202,78 @@ fn push_bad_option(r: &mut Random, out: &mut Vec<u8>) {
             push_option(r, code, length, first, out)
         }
     }
+}
+
+/// An options part that is refused for one option, for this cause: in front of all, or behind one to four good ones. Returns where it begins.
+/// For 10 the part itself is good, and a payload of it is refused.
+pub fn refused_option(r: &mut Random, cause: Cause, out: &mut Vec<u8>) -> usize {
+    out.clear();
+    if !r.once_in(2) {
+        for _ in 0..r.between(1, 4) {
+            push_good_option(r, out);
+        }
+    }
+    let start = out.len();
+    match cause {
+        Cause::NoHead => {
+            let some = r.between(1, 2);
+            r.bytes(some, out);
+            return start;
+        }
+        Cause::CutShort => {
+            push_good_option(r, out);
+            let size = out.len() - start;
+            let more = r.pick(&[1, 2, 40, 255]);
+            out[start..start + 2].copy_from_slice(&be16(size - 3 + more));
+            let less = r.below(size - 2);
+            out.truncate(out.len() - less);
+            return start;
+        }
+        Cause::OtherLength => {
+            let (code, length) = r.pick(&KINDS[1..]);
+            let other = r.pick(&[1, length - 1, length + 1, length + 12]);
+            let first = r.byte();
+            push_option(r, code, other, first, out);
+        }
+        Cause::LengthZero => {
+            let code = r.byte();
+            out.extend_from_slice(&[0, 0, code]);
+        }
+        Cause::Text(error) => {
+            let mut string = Vec::new();
+            bad_string(r, error, &mut string);
+            push_configuration(r, &string, out);
+        }
+        Cause::Unknown => {
+            let (code, length) = (unknown_type(r), r.between(1, 12));
+            let first = r.byte() & 0x7f;
+            push_option(r, code, length, first, out);
+        }
+    }
+    for _ in 0..r.below(3) {
+        if cause == Cause::Unknown || r.once_in(2) {
+            push_good_option(r, out)
+        } else {
+            push_bad_option(r, out)
+        }
+    }
+    start
+}
+
+/// A payload of these options, with some entries.
+pub fn payload_of(r: &mut Random, options: &[u8], out: &mut Vec<u8>) {
+    out.clear();
+    let mut entries = Vec::new();
+    for _ in 0..r.below(4) {
+        push_entry(r, 1, false, &mut entries);
+    }
+    lay(r, &entries, options, out)
+}
+
+/// Puts a good header in front of a payload.
+pub fn message_of(r: &mut Random, out: &mut Vec<u8>) {
+    let header = good_header(r, out.len());
+    out.splice(0..0, header);
 }
 
 /// Options that fill exactly `length` bytes, where 4 or more are asked for; returns how many.
@@ -552,12 +666,18 @@ pub fn payload(r: &mut Random, out: &mut Vec<u8>) -> usize {
     number
 }
 
+/// A header of service discovery in front of so many bytes.
+fn good_header(r: &mut Random, payload: usize) -> [u8; 16] {
+    let mut header = [0xff, 0xff, 0x81, 0x00, 0, 0, 0, 0, 0, 0, 0, 1, 1, 1, 2, 0];
+    header[4..8].copy_from_slice(&(payload as u32 + 8).to_be_bytes());
+    header[10..12].copy_from_slice(&(r.next() as u16 | 1).to_be_bytes());
+    header
+}
+
 /// A message with SD header: a payload behind 16 bytes, of which at times some are wrong. Its length field is right.
 pub fn message(r: &mut Random, out: &mut Vec<u8>) {
     payload(r, out);
-    let mut header = [0xff, 0xff, 0x81, 0x00, 0, 0, 0, 0, 0, 0, 0, 1, 1, 1, 2, 0];
-    header[4..8].copy_from_slice(&(out.len() as u32 + 8).to_be_bytes());
-    header[10..12].copy_from_slice(&(r.next() as u16 | 1).to_be_bytes());
+    let mut header = good_header(r, out.len());
     if !r.once_in(3) {
         for _ in 0..r.between(1, 2) {
             match r.below(7) {
@@ -743,7 +863,7 @@ pub fn nth_entry(n: usize, out: &mut Vec<u8>) {
 #[cfg(test)]
 mod tests {
     use super::*;
-    use crate::oracle;
+    use crate::{oracle, places};
 
     #[test]
     fn same_seed_same_payload() {
@@ -794,6 +914,34 @@ mod tests {
         }
         assert_eq!(seen[1..=12], [true; 12]);
         assert_eq!(strings[1..], [true; 6]);
+    }
+
+    /// Each cause comes up where it is asked for, at the first option and at later ones; alone, in a payload, and behind a header.
+    #[test]
+    fn refused_options_are_what_they_say() {
+        let (mut options, mut out) = (Vec::new(), Vec::new());
+        for cause in Cause::ALL {
+            let mut first = 0;
+            for n in 0..1000 {
+                let mut r = Random::of(6, cause.number(), n);
+                let start = refused_option(&mut r, cause, &mut options);
+                first += usize::from(start == 0);
+                let is = |fault: Option<places::Fault>| {
+                    fault.map(|fault| (fault.cause, fault.option)) == Some((cause, start))
+                };
+                payload_of(&mut r, &options, &mut out);
+                assert!(is(places::in_payload(&out, false)), "{cause}: {out:02x?}");
+                let said = oracle::read(&out, false).err().map(|said| said.number);
+                assert_eq!(said, Some(cause.number()));
+                let alone = places::in_option(&options[start..]);
+                assert_eq!(alone.is_some(), cause != Cause::Unknown);
+                assert_eq!(is(places::in_options(&options)), cause != Cause::Unknown);
+                message_of(&mut r, &mut out);
+                let said = oracle::read_message(&out, false).map(|said| said.err());
+                assert_eq!(said.flatten().map(|said| said.number), Some(cause.number()));
+            }
+            assert!((400..600).contains(&first), "{cause}: {first}");
+        }
     }
 
     #[test]

@@ -9,6 +9,7 @@ mod calls;
 mod inputs;
 mod oracle;
 mod oracle_tp;
+mod places;
 mod plan;
 #[cfg(feature = "port")]
 mod port;

@@ -1,7 +1,9 @@
 //! What the crate someip_parse says, as the rules' numbers and values; one function for each call.
-//! Nothing is judged here: errors are renamed, and slices become the places where they lie.
+//! Nothing is judged here: errors are renamed, and slices become the places where they lie. The byte place of 7 to 10, which the crate does not
+//! tell, is what `places.rs` finds.
 
 use crate::calls::{Answer, Entry, Opt, Places, NOTHING, SLOTS};
+use crate::places::{self, Cause, Fault};
 use someip_parse::err::{LenError, LenSource, SdError, SdOptionSliceError, SdSliceError};
 use someip_parse::sd::entries::U4;
 use someip_parse::sd::options::{self, ConfigurationOption, SdConfigurationStringError};
@@ -9,15 +11,15 @@ use someip_parse::sd::{SdEntrySlice, SdOptionSlice, SdOptionsIndex, SdSlice};
 use someip_parse::SomeipMsgSlice;
 
 /// An error that no reading gives: it differs from every answer of the port.
-const UNEXPECTED: u64 = 99;
+pub const UNEXPECTED: u64 = 99;
 
-// ---- errors
+// ---- errors: the place, where one is due, is left at 0
 
 fn wide(n: usize) -> u64 {
     n as u64
 }
 
-pub fn string_error(error: &SdConfigurationStringError) -> Answer {
+fn string_error(error: &SdConfigurationStringError) -> Answer {
     use SdConfigurationStringError::*;
     match *error {
         MissingTerminator => Answer::new(9, &[1]),
@@ -51,7 +53,7 @@ fn length_error(error: &LenError) -> Answer {
     Answer::new(7, &[wide(error.required_len), wide(error.len), source])
 }
 
-pub fn option_error(error: &SdOptionSliceError) -> Answer {
+fn option_error(error: &SdOptionSliceError) -> Answer {
     match error {
         SdOptionSliceError::Len(error) => length_error(error),
         SdOptionSliceError::OptionLengthZero => Answer::new(8, &[]),
@@ -62,7 +64,7 @@ pub fn option_error(error: &SdOptionSliceError) -> Answer {
     }
 }
 
-pub fn slice_error(error: &SdSliceError) -> Answer {
+fn slice_error(error: &SdSliceError) -> Answer {
     let content = match error {
         SdSliceError::UnexpectedEndOfSlice(needed) => return Answer::new(1, &[wide(*needed)]),
         SdSliceError::Content(content) => content,
@@ -105,11 +107,33 @@ pub fn slice_error(error: &SdSliceError) -> Answer {
     }
 }
 
+/// A refusal with the place that the walk finds. Where the walk finds nothing, or something else than the crate refused, it is no answer at all.
+fn with_place(mut said: Answer, walk: impl FnOnce() -> Option<Fault>) -> Answer {
+    let (number, error) = (said.number, said.values[0]);
+    let Some(place) = said.place() else {
+        return said;
+    };
+    let same = |cause: Cause| match cause {
+        Cause::Text(found) => number == 9 && error == found,
+        _ => number == cause.number(),
+    };
+    match walk() {
+        Some(fault) if same(fault.cause) => *place = wide(fault.place),
+        _ => return Answer::new(UNEXPECTED, &[]),
+    }
+    said
+}
+
 // ---- payload, message, index
 
 /// The reading of a payload, or its refusal.
 pub fn read(payload: &[u8], discard: bool) -> Result<SdSlice<'_>, Answer> {
-    SdSlice::from_slice_with_flag(payload, discard).map_err(|error| slice_error(&error))
+    SdSlice::from_slice_with_flag(payload, discard)
+        .map_err(|error| payload_refusal(&error, payload, discard))
+}
+
+fn payload_refusal(error: &SdSliceError, payload: &[u8], discard: bool) -> Answer {
+    with_place(slice_error(error), || places::in_payload(payload, discard))
 }
 
 /// The reading of a message with SD header; `None` where `SomeipMsgSlice` does not accept the message whole, and nothing is compared.
@@ -118,7 +142,10 @@ pub fn read_message(message: &[u8], discard: bool) -> Option<Result<SdSlice<'_>,
     if header.slice().len() != message.len() {
         return None;
     }
-    Some(SdSlice::from_someip_with_flag(&header, discard).map_err(|error| slice_error(&error)))
+    Some(
+        SdSlice::from_someip_with_flag(&header, discard)
+            .map_err(|error| payload_refusal(&error, &message[16..], discard)),
+    )
 }
 
 /// The answer to an accepted payload: the three flags, the numbers of entries and of options.
@@ -133,7 +160,8 @@ pub fn read_answer(sd: &SdSlice) -> Answer {
 
 /// The index over an options part, or its refusal.
 pub fn index(options: &[u8]) -> Result<SdOptionsIndex<'_>, Answer> {
-    SdOptionsIndex::from_slice(options).map_err(|error| option_error(&error))
+    SdOptionsIndex::from_slice(options)
+        .map_err(|error| with_place(option_error(&error), || places::in_options(options)))
 }
 
 /// What the 347 slots hold after an accepted reading: where the crate's own lookup finds each option, then zeros.
@@ -233,9 +261,10 @@ pub fn next_option(options: &[u8], at: usize) -> Answer {
     if at >= options.len() {
         return NOTHING;
     }
-    match SdOptionSlice::from_slice(&options[at..]) {
+    let rest = &options[at..];
+    match SdOptionSlice::from_slice(rest) {
         Ok((option, _)) => placed(options, &option),
-        Err(error) => option_error(&error),
+        Err(error) => with_place(option_error(&error), || places::in_option(rest)),
     }
 }
 
@@ -251,6 +280,11 @@ pub fn run(index: &SdOptionsIndex, start: u8, count: u8) -> Vec<Answer> {
 }
 
 pub fn string(string: &[u8]) -> Answer {
+    with_place(judged(string), || places::in_string(string))
+}
+
+/// The crate's check of a string, without a place.
+fn judged(string: &[u8]) -> Answer {
     match ConfigurationOption::validate_configuration_string(string) {
         Ok(()) => Answer::default(),
         Err(error) => string_error(&error),
@@ -272,12 +306,12 @@ pub fn next_item(string: &[u8], at: usize) -> Answer {
         }
         None => alone.extend_from_slice(rest),
     }
-    let mut answer = self::string(&alone);
+    let mut answer = judged(&alone);
     match answer.number {
         0 => Answer::new(0, &[wide(at + 1), wide(size)]),
         _ => {
             answer.values[1] += wide(at);
-            answer
+            with_place(answer, || places::in_item(string, at))
         }
     }
 }
@@ -288,7 +322,7 @@ pub fn read_option(bytes: &[u8]) -> Opt {
         Ok((option, _)) => option,
         Err(error) => {
             return Opt {
-                answer: option_error(&error),
+                answer: with_place(option_error(&error), || places::in_option(bytes)),
                 ..Opt::default()
             }
         }
@@ -432,7 +466,7 @@ mod tests {
         assert_eq!(said(&whole, false), Answer::new(0, &[0x80, 1, 1]));
         let unknown = |last: u8| [&[0u8; 11][..], &[4, 0, 1, 0x77, last]].concat();
         assert_eq!(said(&unknown(0x80), false), Answer::new(0, &[0, 0, 1]));
-        assert_eq!(said(&unknown(0), false), Answer::new(10, &[0x77]));
+        assert_eq!(said(&unknown(0), false), Answer::new(10, &[0x77, 3]));
         assert_eq!(said(&unknown(0), true), Answer::new(0, &[0, 0, 1]));
         let many = [0, 1, 0x77, 0x80].repeat(347);
         assert_eq!(index(&many).unwrap().len(), 347);
@@ -446,18 +480,119 @@ mod tests {
     #[test]
     fn strings_of_the_rules() {
         for (text, values) in [
-            ("", &[1][..]),
-            ("0000", &[3, 0]),
-            ("013D00", &[4, 0]),
-            ("012000", &[6, 0]),
-            ("0241FF00", &[5, 0, 1, 255]),
-            ("054100", &[2, 0, 5, 2]),
-            ("0141", &[1]),
+            ("", &[1, 0][..]),
+            ("0000", &[3, 0, 0]),
+            ("013D00", &[4, 0, 0]),
+            ("012000", &[6, 0, 0]),
+            ("0241FF00", &[5, 0, 1, 255, 0]),
+            ("054100", &[2, 0, 5, 2, 0]),
+            ("0141", &[1, 2]),
         ] {
             assert_eq!(string(&hex(text)), Answer::new(9, values), "{text}");
         }
         assert!(string(&hex("00")).accepted());
         assert!(string(&hex("03413DFF00")).accepted());
+    }
+
+    /// One bad option in front and behind another, as each call counts its place.
+    #[test]
+    fn places_by_call() {
+        let good = hex("00017780");
+        for (text, number, values, place) in [
+            ("00", 7, &[3, 1, 0][..], 0),
+            ("00050280", 7, &[8, 4, 0], 0),
+            ("00010280", 7, &[5, 1, 1], 0),
+            ("000077", 8, &[], 0),
+            ("00010100", 9, &[1], 4),
+            ("00060100 0141054200", 9, &[2, 2, 5, 2], 6),
+            ("00030100 0000", 9, &[3, 0], 4),
+            ("00060100 0141013D00", 9, &[4, 2], 6),
+            ("00050100 0241FF00", 9, &[5, 0, 1, 255], 4),
+            ("00040100 012000", 9, &[6, 0], 4),
+        ] {
+            let option = hex(text);
+            let answer = |place| Answer::new(number, &[values, &[place]].concat());
+            assert_eq!(read_option(&option).answer, answer(place), "{text}");
+            for front in [0, 4] {
+                let options = [&good[..front], &option].concat();
+                assert_eq!(next_option(&options, front), answer(place), "{text}");
+                let place = place + front as u64;
+                assert_eq!(index(&options).unwrap_err(), answer(place), "{text}");
+                let lengths = [&[0; 8][..], &(options.len() as u32).to_be_bytes()].concat();
+                let payload = [lengths, options].concat();
+                assert_eq!(read(&payload, true).unwrap_err(), answer(place), "{text}");
+                let mut message = hex("FFFF8100 00000000 00000001 01010200");
+                message[7] = 8 + payload.len() as u8;
+                message.extend(&payload);
+                let refused = read_message(&message, false).unwrap().unwrap_err();
+                assert_eq!(refused, answer(place), "{text}");
+            }
+        }
+        let item = |at| next_item(&hex("01410541"), at);
+        assert_eq!(item(2), Answer::new(9, &[2, 2, 5, 1, 2]));
+        assert_eq!(item(0), Answer::new(0, &[1, 1]));
+    }
+
+    /// A walk that finds nothing, or something else than the crate, leaves no answer.
+    #[test]
+    fn what_does_not_fit_is_no_answer() {
+        let fault = |cause| {
+            let (option, place) = (0, 6);
+            Some(Fault {
+                cause,
+                option,
+                place,
+            })
+        };
+        let causes = Cause::ALL.map(|cause| (cause, fault(cause)));
+        for (cause, _) in causes {
+            let number = cause.number();
+            let first = match cause {
+                Cause::Text(error) => error,
+                _ => 1,
+            };
+            let said = Answer::new(number, &[first]);
+            assert_eq!(with_place(said, || None).number, UNEXPECTED);
+            for (other, found) in causes {
+                let mut want = said;
+                *want.place().unwrap() = 6;
+                let fits = cause == other || (number, other.number()) == (7, 7);
+                let want = if fits {
+                    want
+                } else {
+                    Answer::new(UNEXPECTED, &[])
+                };
+                assert_eq!(with_place(said, || found), want, "{cause} and {other}");
+            }
+        }
+        // Other answers tell no place, and no walk is made.
+        let other = Answer::new(11, &[5]);
+        assert_eq!(with_place(other, || unreachable!()), other);
+    }
+
+    /// Over the generator's inputs: the walk finds a fault exactly where the crate refuses by 7 to 10, and the same one.
+    #[test]
+    fn the_walk_fits_the_crate() {
+        let mut out = Vec::new();
+        for n in 0..100_000 {
+            let mut r = crate::random::Random::of(7, 0, n);
+            let discard = r.once_in(2);
+            crate::inputs::payload(&mut r, &mut out);
+            let walked = match said(&out, discard).number {
+                1..=6 => continue,
+                number => (7..=10).contains(&number),
+            };
+            assert_eq!(places::in_payload(&out, discard).is_some(), walked);
+            crate::inputs::options(&mut r, &mut out);
+            if out.len() <= 1388 {
+                assert_eq!(places::in_options(&out).is_some(), index(&out).is_err());
+            }
+            crate::inputs::option(&mut r, &mut out);
+            let refused = !read_option(&out).answer.accepted();
+            assert_eq!(places::in_option(&out).is_some(), refused);
+            crate::inputs::string(&mut r, &mut out);
+            assert_eq!(places::in_string(&out).is_some(), !string(&out).accepted());
+        }
     }
 
     #[test]

@@ -35,4 +35,6 @@ pub mod family {
     pub const LONG_KEYS: u64 = 9;
     pub const SHORT_ITEM: u64 = 10;
     pub const LONG_STRING: u64 = 11;
+    pub const REFUSED_OPTION: u64 = 12;
+    pub const REFUSED_RECORD: u64 = 13;
 }

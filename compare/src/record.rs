@@ -3,6 +3,7 @@
 use crate::calls::{Answer, SLOTS};
 use crate::oracle;
 use crate::oracle_tp::{has_bytes_behind, Stream};
+use crate::places::{self, Cause, Faults};
 use crate::random::Random;
 use crate::tp_inputs::{self, Sequence, Step};
 use crate::{inputs, plan::family};
@@ -78,12 +79,9 @@ fn sum_of_table(table: &[u16; SLOTS]) -> u32 {
     sum.value()
 }
 
-/// How many values of an answer go into a sum.
-const SUMMED: usize = 4;
-
 fn add_answer(sum: &mut Sum, answer: Answer) {
     sum.number(answer.number);
-    for value in &answer.values[..SUMMED] {
+    for value in &answer.values {
         sum.number(*value);
     }
 }
@@ -167,6 +165,8 @@ pub struct List {
     pub kinds: BTreeMap<Kind, u64>,
     /// Answers by number; a string's error as 90 plus which of the six.
     pub answers: BTreeMap<u64, u64>,
+    /// Payloads, messages and options parts that are refused for an option.
+    pub faults: Faults,
 }
 
 impl List {
@@ -182,6 +182,7 @@ impl List {
     ) {
         let count = match answer.number {
             0 => kind.accepted_values(),
+            oracle::UNEXPECTED => panic!("no answer to {input:02x?}"),
             _ => answer.value_count(),
         };
         let values = answer.values[..count].iter().map(|value| *value as u32);
@@ -235,6 +236,7 @@ impl List {
         for (number, count) in &self.answers {
             println!("  {count:>8}  {number}");
         }
+        self.faults.print();
     }
 }
 
@@ -276,7 +278,12 @@ fn reading_record(
             let answer = oracle::read_answer(&sd);
             list.record(kind, discard.into(), &[], answer, &checks, input);
         }
-        Err(answer) => list.record(kind, discard.into(), &[], answer, &[], input),
+        Err(answer) => {
+            if (7..=10).contains(&answer.number) {
+                list.faults.count(places::in_payload(payload, discard));
+            }
+            list.record(kind, discard.into(), &[], answer, &[], input)
+        }
     }
 }
 
@@ -289,7 +296,12 @@ fn index_record(list: &mut List, options: &[u8]) {
             let checks = [sum_of_table(&table), sum_of_options(options)];
             list.record(Kind::Index, 0, &[], answer, &checks, options);
         }
-        Err(answer) => list.record(Kind::Index, 0, &[], answer, &[], options),
+        Err(answer) => {
+            if (7..=9).contains(&answer.number) {
+                list.faults.count(places::in_options(options));
+            }
+            list.record(Kind::Index, 0, &[], answer, &[], options)
+        }
     }
 }
 
@@ -339,7 +351,7 @@ fn kept(r: &mut Random, input: &[u8]) -> bool {
     input.len() <= 150 || (input.len() <= 1900 && r.once_in(60))
 }
 
-/// The service discovery list: at least 24,000 inputs, and every number that the crate can give at least fifty times.
+/// The service discovery list: at least 24,000 inputs, and every number that the crate can give at least fifty times; then options that are refused.
 pub fn service_discovery(seed: u64) -> List {
     let mut list = List::default();
     let (mut out, mut number) = (Vec::new(), 0);
@@ -384,7 +396,31 @@ pub fn service_discovery(seed: u64) -> List {
         }
         number += 1;
     }
+    for number in 0..REFUSED {
+        refused_records(&mut list, seed, number);
+    }
     list
+}
+
+/// How many lists of options that are refused for one of them.
+const REFUSED: u64 = 330;
+
+/// Options of which one is refused, for each cause in turn: as an options part, in a payload, behind a header, and that one alone.
+fn refused_records(list: &mut List, seed: u64, number: u64) {
+    let mut r = Random::of(seed, family::REFUSED_RECORD, number);
+    let cause = Cause::ALL[number as usize % Cause::ALL.len()];
+    let discard = cause != Cause::Unknown && r.once_in(2);
+    let (mut options, mut out) = (Vec::new(), Vec::new());
+    let start = inputs::refused_option(&mut r, cause, &mut options);
+    if !kept(&mut r, &options) {
+        return;
+    }
+    index_record(list, &options);
+    option_record(list, &options[start..]);
+    inputs::payload_of(&mut r, &options, &mut out);
+    payload_record(list, &out, discard);
+    inputs::message_of(&mut r, &mut out);
+    message_record(list, &out, discard);
 }
 
 // ---- streams
@@ -511,8 +547,8 @@ mod tests {
         assert_eq!(records[1][..6], [1, 1, 1, 0, 1, 0]);
         assert_eq!(records[1][6..10], [0, 0, 0, 12]);
         assert_eq!(records[1][10..], [0; 11]);
-        // The string 054100: 9, the second error, item 0, 5 bytes, 2 remaining.
-        assert_eq!(records[2][..6], [6, 0, 9, 0, 4, 0]);
+        // The string 054100: 9, the second error, item 0, 5 bytes, 2 remaining, at byte 0.
+        assert_eq!(records[2][..6], [6, 0, 9, 0, 5, 0]);
     }
 
     #[test]
@@ -536,6 +572,13 @@ mod tests {
         assert!(list.records >= 20_000);
         for number in (1..=20).filter(|n| *n != 9).chain(91..=96) {
             assert!(list.often(number) >= OFTEN, "{number}");
+        }
+        for cause in Cause::ALL {
+            let counts = list.faults.0[&cause];
+            assert!(
+                counts.iter().all(|count| *count >= OFTEN),
+                "{cause}: {counts:?}"
+            );
         }
         let list = streams(1);
         assert!(list.kinds[&Kind::Begin] >= 3_000);

@@ -28,6 +28,12 @@ pub enum Fault {
     DeleteInKeyAccepted,
     FarKeyByteMissed,
     ItemWithItsLength,
+    PlaceFromTheOption,
+    PlaceFromThePart,
+    PlaceFromTheMessage,
+    PlaceOfTheKey,
+    PlaceOfTheUnknownOption,
+    PlaceOfTheLastByte,
     InputDamaged,
     SegmentSwallowed,
     FirstBytesWin,
@@ -45,7 +51,7 @@ pub enum Fault {
 use Fault::*;
 
 /// All faults: those of service discovery, then those of a stream.
-const SERVICE_DISCOVERY: [Fault; 22] = [
+const SERVICE_DISCOVERY: [Fault; 28] = [
     NeededLengthOffByOne,
     RefusalsRenumbered,
     TableShifted,
@@ -67,6 +73,12 @@ const SERVICE_DISCOVERY: [Fault; 22] = [
     DeleteInKeyAccepted,
     FarKeyByteMissed,
     ItemWithItsLength,
+    PlaceFromTheOption,
+    PlaceFromThePart,
+    PlaceFromTheMessage,
+    PlaceOfTheKey,
+    PlaceOfTheUnknownOption,
+    PlaceOfTheLastByte,
     InputDamaged,
 ];
 const STREAMS: [Fault; 11] = [
@@ -89,9 +101,28 @@ pub struct Faulty<'a, P> {
     fault: Fault,
 }
 
+/// Moves the place that a refusal tells, if it tells one.
+fn move_place(answer: &mut Answer, by: i64) {
+    if let Some(place) = answer.place() {
+        *place = place.wrapping_add_signed(by);
+    }
+}
+
 impl<P: Calls> Faulty<'_, P> {
     fn is(&self, fault: Fault) -> bool {
         self.fault == fault
+    }
+
+    /// The first refusal of the option cursor, which counts the place from the option.
+    fn refused_alone(&self, options: &[u8]) -> Answer {
+        let mut at = 0;
+        loop {
+            let answer = self.inner.next_option(options, at);
+            if !answer.accepted() {
+                return answer;
+            }
+            at += answer.values[2] as usize;
+        }
     }
 
     /// The faults of a whole reading's answer.
@@ -114,6 +145,12 @@ impl<P: Calls> Faulty<'_, P> {
                     return Answer::new(12, &[1, entry[1].into(), 0, options]);
                 }
             }
+            (PlaceFromTheOption, 7..=9) => {
+                let parts = self.inner.parts(payload, Answer::default());
+                return self.refused_alone(&payload[parts.options_at as usize..]);
+            }
+            (PlaceOfTheKey, 9) if ![1, 3].contains(&answer.values[0]) => move_place(&mut answer, 1),
+            (PlaceOfTheUnknownOption, 10) => move_place(&mut answer, -3),
             (TableShifted, 0) if answer.values[2] > 1 => table[..SLOTS].rotate_right(1),
             (TableLeftAfterRefusal, 7..=12) => table[0] = 4,
             (SlotPastTableTouched, 0) => {
@@ -144,9 +181,12 @@ impl<P: Calls> Calls for Faulty<'_, P> {
     }
 
     fn read_message(&self, message: &[u8], table: &mut [u16], settings: u32) -> Answer {
-        let answer = self.inner.read_message(message, table, settings);
+        let mut answer = self.inner.read_message(message, table, settings);
         if self.is(SessionZeroAccepted) && answer.number == 16 {
             return self.inner.read(&message[16..], table, settings);
+        }
+        if self.is(PlaceFromTheMessage) {
+            move_place(&mut answer, 16);
         }
         answer
     }
@@ -174,7 +214,11 @@ impl<P: Calls> Calls for Faulty<'_, P> {
     }
 
     fn next_option(&self, options: &[u8], at: usize) -> Answer {
-        self.inner.next_option(options, at)
+        let mut answer = self.inner.next_option(options, at);
+        if self.is(PlaceFromThePart) {
+            move_place(&mut answer, at as i64);
+        }
+        answer
     }
 
     fn next_of_run(
@@ -193,7 +237,10 @@ impl<P: Calls> Calls for Faulty<'_, P> {
     }
 
     fn string(&self, string: &[u8]) -> Answer {
-        let answer = self.inner.string(string);
+        let mut answer = self.inner.string(string);
+        if self.is(PlaceOfTheLastByte) && answer.number == 9 && answer.values[0] == 1 {
+            move_place(&mut answer, -1);
+        }
         if self.is(DeleteInKeyAccepted) && answer.number == 9 && answer.values[3] == 0x7f {
             return Answer::default();
         }

@@ -2,6 +2,7 @@
 
 use crate::calls::{Answer, Calls, Places, DISCARD, NOTHING, SLOTS};
 use crate::oracle;
+use crate::places;
 use crate::tally::{hex, Tally};
 use someip_parse::sd::{SdOptionsIndex, SdSlice};
 
@@ -127,6 +128,10 @@ impl<'a, P: Calls> Sd<'a, P> {
             Err(answer) => *answer,
         };
         self.tally.answer(want);
+        if (7..=10).contains(&want.number) {
+            let fault = places::in_payload(payload, discard);
+            self.tally.faults.count(fault);
+        }
         self.tally.same(call, &want, &got, name);
         self.table_is(
             reading.as_ref().ok().map(|sd| sd.options_index()),
@@ -265,6 +270,9 @@ impl<'a, P: Calls> Sd<'a, P> {
             Err(answer) => *answer,
         };
         self.tally.answer(want);
+        if (7..=10).contains(&want.number) {
+            self.tally.faults.count(places::in_options(options));
+        }
         self.tally.same("index", &want, &got, || hex(options));
         self.table_is(index.as_ref().ok(), slots, options);
         if let Ok(index) = &index {

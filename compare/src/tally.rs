@@ -1,5 +1,6 @@
 //! What a run counted, and the first differences that it found.
 
+use crate::places::Faults;
 use std::collections::BTreeMap;
 use std::fmt::{Debug, Write};
 
@@ -42,6 +43,8 @@ pub struct Tally {
     pub compared: Counts,
     /// The crate's answers by number; a string's error as 90 plus which of the six.
     pub answers: BTreeMap<u64, u64>,
+    /// Payloads, messages and options parts that are refused for an option.
+    pub faults: Faults,
     /// Answers that the crate has not, judged by the rules alone, by number.
     pub by_document: BTreeMap<u64, u64>,
     /// Inputs that fell outside what can be compared, by why.
@@ -108,6 +111,7 @@ impl Tally {
         for (number, count) in other.answers {
             *self.answers.entry(number).or_default() += count;
         }
+        self.faults.add(other.faults);
         for (number, count) in other.by_document {
             *self.by_document.entry(number).or_default() += count;
         }
@@ -129,6 +133,7 @@ impl Tally {
             };
             println!("  {count:>12}  {name}");
         }
+        self.faults.print();
         println!("answers that the crate has not, compared with the rules alone:");
         for (number, count) in &self.by_document {
             println!("  {count:>12}  {number}");

@@ -2,6 +2,7 @@
 
 use crate::calls::{Calls, SLOTS};
 use crate::inputs;
+use crate::places::Cause;
 use crate::plan::{family, Exhaustive, Plan};
 use crate::random::Random;
 use crate::sd::Sd;
@@ -88,6 +89,21 @@ fn one_long_string<P: Calls>(sd: &mut Sd<P>, seed: u64, number: u64, out: &mut V
     let mut r = Random::of(seed, family::LONG_STRING, number);
     inputs::long_string(&mut r, out);
     sd.string(out);
+}
+
+/// Options of which one is refused, for each cause in turn: alone, as an options part, as a payload, and behind a header.
+fn one_refused<P: Calls>(sd: &mut Sd<P>, seed: u64, number: u64, out: &mut Vec<u8>) {
+    let mut r = Random::of(seed, family::REFUSED_OPTION, number);
+    let cause = Cause::ALL[number as usize % Cause::ALL.len()];
+    let discard = cause != Cause::Unknown && r.once_in(2);
+    let mut options = Vec::new();
+    let start = inputs::refused_option(&mut r, cause, &mut options);
+    sd.option(&options[start..]);
+    sd.index(&options, slots(&mut r), [(0, 0); 2]);
+    inputs::payload_of(&mut r, &options, out);
+    sd.payload(out, discard, slots(&mut r));
+    inputs::message_of(&mut r, out);
+    sd.message(out, discard, slots(&mut r));
 }
 
 /// Tables that no index filled.
@@ -250,6 +266,7 @@ pub fn service_discovery<P: Calls>(port: &P, plan: &Plan) -> Tally {
     whole.add(with_sd(port, plan, plan.payloads / 10, one_index));
     whole.add(with_sd(port, plan, plan.payloads / 10, one_alone));
     whole.add(with_sd(port, plan, plan.payloads / 10, one_long_string));
+    whole.add(with_sd(port, plan, plan.payloads / 20, one_refused));
     whole.add(with_sd(port, plan, plan.payloads / 50, one_foreign));
     if plan.exhaustive > Exhaustive::None {
         whole.add(all_strings(port, plan));
@@ -306,6 +323,13 @@ mod tests {
         }
         for number in [21, 22, 30, 34, 35, 36, 38] {
             assert!(tally.by_document.contains_key(&number), "{number}");
+        }
+        for cause in Cause::ALL {
+            let counts = tally.faults.0[&cause];
+            assert!(
+                counts.iter().all(|count| *count >= 300),
+                "{cause}: {counts:?}"
+            );
         }
     }
 }

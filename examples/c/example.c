@@ -16,14 +16,26 @@ static const uint8_t payload[] = {
 /* An option of unknown type 0x77 that may not be discarded, and no entry. */
 static const uint8_t unknown[] = {0, 0, 0, 0, 0, 0, 0, 0, 0, 0, 0, 4, 0x00, 0x01, 0x77, 0x00};
 
-/* The number, its name and its values up to the last that is not 0. */
+/* A good option, and one with a configuration string whose second item has no key; no entry. */
+static const uint8_t no_key[] = {
+    0, 0, 0, 0, 0, 0, 0, 0, 0, 0, 0, 13,
+    0x00, 0x01, 0x77, 0x80,                         /* the good option */
+    0x00, 0x06, 0x01, 0x00, 1, 'a', 1, '=', 0,      /* the other: the item at fault begins at byte 10 of the options */
+};
+
+/* The number, its name, its values up to the last that is not 0, and where it went wrong. The places of a payload count from its options. */
 static void show_refusal(const char *what, viaductle_answer answer) {
+    uint64_t place;
     size_t count = VIADUCTLE_VALUES;
     while (count > 0 && answer.values[count - 1] == 0)
         count--;
     printf("%s: refused, %" PRIu64 ": %s", what, answer.number, viaductle_name(answer.number));
+    if (answer.number == VIADUCTLE_CONFIGURATION_STRING)
+        printf(", %s", viaductle_string_name(answer.values[0]));
     for (size_t i = 0; i < count; i++)
         printf("%s%" PRIu64, i == 0 ? "; " : ", ", answer.values[i]);
+    if (viaductle_place(answer.number, answer.values, &place))
+        printf("; at byte %" PRIu64 " of the options", place);
     printf("\n");
 }
 
@@ -106,6 +118,7 @@ int main(void) {
     show_payload(payload, sizeof payload - 1, 0);
     show_payload(unknown, sizeof unknown, 0);
     show_payload(unknown, sizeof unknown, VIADUCTLE_DISCARD);
+    show_payload(no_key, sizeof no_key, 0);
     join_segments();
     return 0;
 }

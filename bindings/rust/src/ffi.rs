@@ -4,7 +4,7 @@
 //! parameters and fields, in their order. The other tests call each function and look at each field.
 
 /// As many values as an answer has at most: the header's `VIADUCTLE_VALUES`.
-pub(crate) const VALUES: usize = 4;
+pub(crate) const VALUES: usize = 5;
 
 /// The rules' number, 0 for accepted, and its values in order; unused ones are 0.
 #[derive(Clone, Copy)]

@@ -29,8 +29,8 @@
 //! # Ok::<(), viaductle::Refusal>(())
 //! ```
 //!
-//! Streams of TP segments are in [`TpBuf`]. What is refused is a [`Refusal`], with the number that the rules give it. docs/MOVING.md leads from
-//! someip_parse to this crate, call by call.
+//! Streams of TP segments are in [`TpBuf`]. What is refused is a [`Refusal`], with the number that the rules give it, and for an option with the
+//! [`Place`] at which it is wrong. docs/MOVING.md leads from someip_parse to this crate, call by call.
 
 #![no_std]
 #![deny(unsafe_code)]
@@ -44,7 +44,9 @@ pub mod sd;
 mod tp;
 
 pub use message::SomeipMsgSlice;
-pub use refusal::{LenSource, Refusal, SdConfigurationStringError, Values, MAX_REFUSAL_VALUES};
+pub use refusal::{
+    LenSource, Place, Refusal, SdConfigurationStringError, Values, MAX_REFUSAL_VALUES,
+};
 pub use tp::{TpBuf, TpRange, TpStream, MAX_TP_PAYLOAD_LEN, TP_STREAM_WORDS};
 
 /// The examples of the README and of docs/MOVING.md, run with the others.

@@ -37,19 +37,27 @@ pub enum Refusal {
         expected_len: usize,
         actual_len: usize,
     },
-    /// 7: an option's length does not fit the bytes, or its type.
+    /// 7: an option's length does not fit the bytes, or its type. The place is the option's first byte.
     #[allow(missing_docs)]
     OptionLen {
         required_len: usize,
         len: usize,
         len_source: LenSource,
+        place: Place,
     },
-    /// 8: an option's length field is 0.
-    OptionLengthZero,
-    /// 9: a configuration string is wrong.
-    ConfigurationString(SdConfigurationStringError),
-    /// 10: an option of unknown type that may not be discarded.
-    UnknownSdOptionType(u8),
+    /// 8: an option's length field is 0. The place is the option's first byte.
+    #[allow(missing_docs)]
+    OptionLengthZero { place: Place },
+    /// 9: a configuration string is wrong. The place is the first byte of the item at fault, which is its length byte; the closing zero byte where
+    /// others follow it; and where there is none, the string's end, one past its last byte.
+    #[allow(missing_docs)]
+    ConfigurationString {
+        error: SdConfigurationStringError,
+        place: Place,
+    },
+    /// 10: an option of unknown type that may not be discarded. The place is the byte with the discardable bit, the option's fourth.
+    #[allow(missing_docs)]
+    UnknownSdOptionType { option_type: u8, place: Place },
     /// 11: an entry of unknown type.
     UnknownSdServiceEntryType(u8),
     /// 12: an entry's run of options leaves the list.
@@ -116,6 +124,51 @@ pub enum Refusal {
     },
 }
 
+/// The byte at which an option or a configuration string was refused, and what it is counted from: [`Refusal::place`].
+///
+/// ```
+/// use viaductle::sd::{OffsetTable, SdOptionSlice, SdOptionsIndex};
+/// use viaductle::Place;
+///
+/// // An option of four bytes, and one of length 0.
+/// let options = [0, 1, 0x77, 0x80, 0, 0, 0x77];
+/// let refusal = SdOptionsIndex::from_slice(&options, &mut OffsetTable::new()).unwrap_err();
+/// assert_eq!(refusal.place(), Some(Place::Options(4)));
+/// assert_eq!(
+///     refusal.to_string(),
+///     "refused, 8: option at byte 4 of the options: its length field is 0; it is at least 1",
+/// );
+///
+/// let refusal = SdOptionSlice::from_slice(&options[4..]).unwrap_err();
+/// assert_eq!(refusal.place(), Some(Place::Alone(0)));
+/// assert_eq!(refusal.place().unwrap().to_string(), "byte 0 of what was read");
+/// ```
+#[derive(Clone, Copy, Debug, PartialEq, Eq, Hash)]
+pub enum Place {
+    /// Counted from the first byte of the options part, where all options are read: of a payload, of a message, or for an index.
+    Options(usize),
+    /// Counted from the first byte of the option or the string that is read alone, by an iterator too.
+    Alone(usize),
+}
+
+impl Place {
+    /// The byte's number, from 0.
+    pub fn byte(self) -> usize {
+        match self {
+            Place::Options(byte) | Place::Alone(byte) => byte,
+        }
+    }
+}
+
+impl fmt::Display for Place {
+    fn fmt(&self, f: &mut fmt::Formatter<'_>) -> fmt::Result {
+        match self {
+            Place::Options(byte) => write!(f, "byte {byte} of the options"),
+            Place::Alone(byte) => write!(f, "byte {byte} of what was read"),
+        }
+    }
+}
+
 /// What gave the length that an option was judged by.
 #[derive(Clone, Copy, Debug, PartialEq, Eq, Hash)]
 pub enum LenSource {
@@ -125,8 +178,8 @@ pub enum LenSource {
     SdOptionLength,
 }
 
-/// The six errors of a configuration string. `item_offset` is where the item's length byte stands in the string, `byte_offset` the place of
-/// a byte among the item's own.
+/// The six errors of a configuration string. `item_offset` is where the item's length byte stands in the string, `byte_offset` the number of
+/// a byte among the item's own, from 0.
 #[derive(Clone, Copy, Debug, PartialEq, Eq, Hash)]
 #[allow(missing_docs)]
 pub enum SdConfigurationStringError {
@@ -184,52 +237,77 @@ fn said<const N: usize>(number: u64, values: [u64; N]) -> (u64, Values) {
 }
 
 impl SdConfigurationStringError {
-    fn said(self) -> (u64, Values) {
+    fn said(self, place: u64) -> (u64, Values) {
         use SdConfigurationStringError::*;
         match self {
-            MissingTerminator => said(9, [1]),
+            MissingTerminator => said(9, [1, place]),
             ItemLengthExceedsRemaining {
                 item_offset,
                 item_length,
                 remaining,
             } => said(
                 9,
-                [2, item_offset as u64, item_length.into(), remaining as u64],
+                [
+                    2,
+                    item_offset as u64,
+                    item_length.into(),
+                    remaining as u64,
+                    place,
+                ],
             ),
             TrailingDataAfterTerminator { terminator_offset } => {
-                said(9, [3, terminator_offset as u64])
+                said(9, [3, terminator_offset as u64, place])
             }
-            EmptyKey { item_offset } => said(9, [4, item_offset as u64]),
+            EmptyKey { item_offset } => said(9, [4, item_offset as u64, place]),
             InvalidKeyByte {
                 item_offset,
                 byte_offset,
                 value,
-            } => said(9, [5, item_offset as u64, byte_offset as u64, value.into()]),
-            KeyContainsOnlyWhitespace { item_offset } => said(9, [6, item_offset as u64]),
+            } => said(
+                9,
+                [
+                    5,
+                    item_offset as u64,
+                    byte_offset as u64,
+                    value.into(),
+                    place,
+                ],
+            ),
+            KeyContainsOnlyWhitespace { item_offset } => said(9, [6, item_offset as u64, place]),
         }
     }
 
-    fn of(values: [u64; VALUES]) -> Option<Self> {
+    /// The error that these values tell, and the place behind its numbers.
+    fn of(values: [u64; VALUES]) -> Option<(Self, u64)> {
         use SdConfigurationStringError::*;
-        let [which, first, second, third, ..] = values;
+        let [which, first, second, third, fourth] = values;
         let item_offset = first as usize;
         Some(match which {
-            1 => MissingTerminator,
-            2 => ItemLengthExceedsRemaining {
-                item_offset,
-                item_length: second as u8,
-                remaining: third as usize,
-            },
-            3 => TrailingDataAfterTerminator {
-                terminator_offset: first as usize,
-            },
-            4 => EmptyKey { item_offset },
-            5 => InvalidKeyByte {
-                item_offset,
-                byte_offset: second as usize,
-                value: third as u8,
-            },
-            6 => KeyContainsOnlyWhitespace { item_offset },
+            1 => (MissingTerminator, first),
+            2 => (
+                ItemLengthExceedsRemaining {
+                    item_offset,
+                    item_length: second as u8,
+                    remaining: third as usize,
+                },
+                fourth,
+            ),
+            3 => (
+                TrailingDataAfterTerminator {
+                    terminator_offset: first as usize,
+                },
+                second,
+            ),
+            4 => (EmptyKey { item_offset }, second),
+            5 => (
+                InvalidKeyByte {
+                    item_offset,
+                    byte_offset: second as usize,
+                    value: third as u8,
+                },
+                fourth,
+            ),
+            6 => (KeyContainsOnlyWhitespace { item_offset }, second),
             _ => return None,
         })
     }
@@ -241,9 +319,21 @@ impl Refusal {
         self.said().0
     }
 
-    /// The rules' values. Those of 9 are which of the six errors it is, counted from 1, and then its numbers.
+    /// The rules' values. Those of 9 are which of the six errors it is, counted from 1, and then its numbers; the last of 7 to 10 is the place.
     pub fn values(&self) -> Values {
         self.said().1
+    }
+
+    /// The byte at which an option or a string was refused: of 7, 8, 9 and 10.
+    pub fn place(&self) -> Option<Place> {
+        use Refusal::*;
+        match *self {
+            OptionLen { place, .. }
+            | OptionLengthZero { place }
+            | ConfigurationString { place, .. }
+            | UnknownSdOptionType { place, .. } => Some(place),
+            _ => None,
+        }
     }
 
     fn said(&self) -> (u64, Values) {
@@ -262,10 +352,21 @@ impl Refusal {
                 required_len,
                 len,
                 len_source,
-            } => said(7, [required_len as u64, len as u64, len_source as u64]),
-            OptionLengthZero => said(8, []),
-            ConfigurationString(error) => error.said(),
-            UnknownSdOptionType(code) => said(10, [code.into()]),
+                place,
+            } => said(
+                7,
+                [
+                    required_len as u64,
+                    len as u64,
+                    len_source as u64,
+                    place.byte() as u64,
+                ],
+            ),
+            OptionLengthZero { place } => said(8, [place.byte() as u64]),
+            ConfigurationString { error, place } => error.said(place.byte() as u64),
+            UnknownSdOptionType { option_type, place } => {
+                said(10, [option_type.into(), place.byte() as u64])
+            }
             UnknownSdServiceEntryType(code) => said(11, [code.into()]),
             SdOptionRunOutOfBounds {
                 run,
@@ -314,10 +415,12 @@ impl Refusal {
         }
     }
 
-    /// The refusal that the library gave. Numbers are as wide as in the library's own enum, from which they come.
-    pub(crate) fn of(answer: Answer) -> Refusal {
+    /// The refusal that the library gave to a call that counts places from there. Numbers are as wide as in the library's own enum, from which they
+    /// come.
+    fn of(answer: Answer, counted: fn(usize) -> Place) -> Refusal {
         use Refusal::*;
         let Answer { number, values } = answer;
+        let counted = |place: u64| counted(place as usize);
         let [first, second, third, fourth, ..] = values;
         let refusal = match number {
             1 => UnexpectedEndOfSlice(first as usize),
@@ -336,13 +439,22 @@ impl Refusal {
                     0 => LenSource::Slice,
                     _ => LenSource::SdOptionLength,
                 },
+                place: counted(fourth),
             },
-            8 => OptionLengthZero,
+            8 => OptionLengthZero {
+                place: counted(first),
+            },
             9 => match SdConfigurationStringError::of(values) {
-                Some(error) => ConfigurationString(error),
+                Some((error, place)) => ConfigurationString {
+                    error,
+                    place: counted(place),
+                },
                 None => Other { number, values },
             },
-            10 => UnknownSdOptionType(first as u8),
+            10 => UnknownSdOptionType {
+                option_type: first as u8,
+                place: counted(second),
+            },
             11 => UnknownSdServiceEntryType(first as u8),
             12 => SdOptionRunOutOfBounds {
                 run: first as u8,
@@ -388,11 +500,20 @@ impl Refusal {
 }
 
 impl Answer {
-    /// The values of an acceptance, or the refusal.
+    /// The values of an acceptance, or the refusal. A place is counted from what is read alone.
     pub(crate) fn accepted(self) -> Result<[u64; VALUES], Refusal> {
+        self.counted_from(Place::Alone)
+    }
+
+    /// The same of a call that reads a whole options part, and counts places from its first byte.
+    pub(crate) fn accepted_among_options(self) -> Result<[u64; VALUES], Refusal> {
+        self.counted_from(Place::Options)
+    }
+
+    fn counted_from(self, counted: fn(usize) -> Place) -> Result<[u64; VALUES], Refusal> {
         match self.number {
             0 => Ok(self.values),
-            _ => Err(Refusal::of(self)),
+            _ => Err(Refusal::of(self, counted)),
         }
     }
 }
@@ -465,20 +586,29 @@ impl fmt::Display for Refusal {
                 required_len,
                 len,
                 len_source: LenSource::Slice,
-            } => write!(f, "an option needs {required_len} bytes, but only {len} are left"),
+                place,
+            } => write!(
+                f,
+                "option at {place}: it needs {required_len} bytes, but only {len} are left"
+            ),
             OptionLen {
                 required_len,
                 len,
                 len_source: LenSource::SdOptionLength,
+                place,
             } => write!(
                 f,
-                "an option's length field says {len}, but an option of its type has {required_len}"
+                "option at {place}: its length field says {len}, but an option of its type has {required_len}"
             ),
-            OptionLengthZero => write!(f, "an option's length field is 0; it is at least 1"),
-            ConfigurationString(error) => write!(f, "a configuration string is wrong: {error}"),
-            UnknownSdOptionType(code) => write!(
+            OptionLengthZero { place } => {
+                write!(f, "option at {place}: its length field is 0; it is at least 1")
+            }
+            ConfigurationString { error, place } => {
+                write!(f, "configuration string wrong at {place}: {error}")
+            }
+            UnknownSdOptionType { option_type, place } => write!(
                 f,
-                "an option has the unknown type {code:#04x} and may not be discarded; the discard setting would pass it"
+                "option of unknown type {option_type:#04x} may not be discarded, by {place}; the discard setting would pass it"
             ),
             UnknownSdServiceEntryType(code) => write!(
                 f,

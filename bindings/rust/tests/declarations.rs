@@ -3,6 +3,7 @@
 
 use std::collections::BTreeMap;
 use std::{fs, path::Path};
+use viaductle::{LenSource, Place, Refusal, SdConfigurationStringError};
 
 /// Names and types of parameters or fields.
 type Items = Vec<(String, String)>;
@@ -312,7 +313,7 @@ fn every_number_has_a_name() {
     let called = |part: &str| {
         let calls = part.split(&['\n', ' '][..]).filter_map(|word| {
             let (call, rest) = word.split_once('(')?;
-            ["none", "one", "two", "three", "four"]
+            ["none", "one", "two", "three", "four", "five"]
                 .contains(&call)
                 .then_some(rest)
         });
@@ -330,6 +331,73 @@ fn every_number_has_a_name() {
     let mut said = called(&one_line);
     said.insert(8, 9); // which a function of its own tells
     assert_eq!(said, numbers);
+}
+
+/// The header's `viaductle_place` looks for the place where it stands: at the last value.
+#[test]
+fn the_header_finds_the_place() {
+    let Some(header) = repository("include/viaductle.h") else {
+        return;
+    };
+    let text = without_comments(&header);
+    let (_, part) = text.split_once("int viaductle_place(").unwrap();
+    let mut found = BTreeMap::new();
+    let mut names = Vec::new();
+    for case in between(part, '{', '}').0.split("case VIADUCTLE_").skip(1) {
+        names.push(case.split(':').next().unwrap());
+        // Its six errors stand inside this one.
+        names.retain(|name| *name != "CONFIGURATION_STRING");
+        if let Some((_, last)) = case.split_once("last = ") {
+            let last = number(last.split(';').next().unwrap());
+            found.extend(names.drain(..).map(|name| (name, last)));
+        }
+    }
+
+    let place = Place::Options(4);
+    let length = Refusal::OptionLen {
+        required_len: 1,
+        len: 2,
+        len_source: LenSource::Slice,
+        place,
+    };
+    let unknown = Refusal::UnknownSdOptionType {
+        option_type: 3,
+        place,
+    };
+    use SdConfigurationStringError::*;
+    let string = |error| Refusal::ConfigurationString { error, place };
+    let (item_offset, byte_offset, remaining) = (1, 2, 3);
+    let too_long = ItemLengthExceedsRemaining {
+        item_offset,
+        item_length: 5,
+        remaining,
+    };
+    let trailing = TrailingDataAfterTerminator {
+        terminator_offset: 1,
+    };
+    let key_byte = InvalidKeyByte {
+        item_offset,
+        byte_offset,
+        value: 0,
+    };
+    let spaces = KeyContainsOnlyWhitespace { item_offset };
+    let told = [
+        ("OPTION_LENGTH", length),
+        ("OPTION_LENGTH_ZERO", Refusal::OptionLengthZero { place }),
+        ("UNKNOWN_OPTION", unknown),
+        ("MISSING_TERMINATOR", string(MissingTerminator)),
+        ("ITEM_LENGTH_EXCEEDS_REMAINING", string(too_long)),
+        ("TRAILING_DATA_AFTER_TERMINATOR", string(trailing)),
+        ("EMPTY_KEY", string(EmptyKey { item_offset })),
+        ("INVALID_KEY_BYTE", string(key_byte)),
+        ("KEY_CONTAINS_ONLY_WHITESPACE", string(spaces)),
+    ];
+    let told = told.map(|(name, refusal)| {
+        let values = refusal.values();
+        assert_eq!(values.last(), Some(&4));
+        (name, values.len() as u64 - 1)
+    });
+    assert_eq!(found, BTreeMap::from(told));
 }
 
 #[test]

@@ -8,7 +8,7 @@ use viaductle::sd::{
     OffsetTable, SdEntriesIterator, SdEntrySlice, SdOptionSlice, SdOptionsIndex, SdOptionsIterator,
     SdSlice,
 };
-use viaductle::{Refusal, SdConfigurationStringError};
+use viaductle::{Place, Refusal, SdConfigurationStringError};
 
 /// One option of each kind.
 const OPTIONS: &str = "0006 01 80 03 613D31 00
@@ -236,7 +236,8 @@ fn iterators_end_after_a_refusal_and_cursors_stay() {
     let mut options = SdOptionsIterator::new(&bytes);
     assert!(options.next().unwrap().is_ok());
     let mut cursor = options.clone();
-    assert_eq!(options.next().unwrap().unwrap_err().values()[..], [3, 2, 0]);
+    let refusal = options.next().unwrap().unwrap_err();
+    assert_eq!(refusal.values()[..], [3, 2, 0, 0]);
     assert_eq!(options.next(), None);
     assert_eq!(cursor.advance(), cursor.clone().advance());
 }
@@ -331,19 +332,24 @@ fn items_of_a_string() {
     // The end, with and without a closing zero byte; behind it nothing is looked at.
     assert!(items(b"").is_empty() && items(b"\0").is_empty() && items(b"\0\x01a").is_empty());
     assert_eq!(items(b"\x01a").len(), 1);
-    let refused =
-        Refusal::ConfigurationString(SdConfigurationStringError::EmptyKey { item_offset: 2 });
+    let refused = Refusal::ConfigurationString {
+        error: SdConfigurationStringError::EmptyKey { item_offset: 2 },
+        place: Place::Alone(2),
+    };
     let found = items(b"\x01a\x02=b\x01c\0");
     assert_eq!((found.len(), found[1]), (2, Err(refused)));
     let mut cursor = ConfigurationItems::new(b"\x01a\x05b\0");
     assert!(cursor.advance().is_ok());
-    let long = SdConfigurationStringError::ItemLengthExceedsRemaining {
-        item_offset: 2,
-        item_length: 5,
-        remaining: 2,
+    let long = Refusal::ConfigurationString {
+        error: SdConfigurationStringError::ItemLengthExceedsRemaining {
+            item_offset: 2,
+            item_length: 5,
+            remaining: 2,
+        },
+        place: Place::Alone(2),
     };
     for _ in 0..2 {
-        assert_eq!(cursor.advance(), Err(Refusal::ConfigurationString(long)));
+        assert_eq!(cursor.advance(), Err(long));
     }
     let bytes = payload(&hex(ENTRIES), &hex(OPTIONS));
     let mut table = OffsetTable::new();

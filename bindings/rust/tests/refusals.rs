@@ -21,9 +21,10 @@ fn options_are(options: &str, number: u64, values: &[u64], text: &str) {
     let options = hex(options);
     payload_is(&payload(&[], &options), number, values, text);
     let alone = SdOptionSlice::from_slice(&options);
+    let text = text.replace(" of the options", " of what was read");
     match number {
         10 => assert!(alone.is_ok(), "alone an unknown option passes"),
-        _ => is(alone.unwrap_err(), number, values, text),
+        _ => is(alone.unwrap_err(), number, values, &text),
     }
 }
 
@@ -86,67 +87,68 @@ fn r07_to_r10_options() {
     options_are(
         "0001",
         7,
-        &[3, 2, 0],
-        "an option needs 3 bytes, but only 2 are left",
+        &[3, 2, 0, 0],
+        "option at byte 0 of the options: it needs 3 bytes, but only 2 are left",
     );
     options_are(
         "00050280",
         7,
-        &[8, 4, 0],
-        "an option needs 8 bytes, but only 4 are left",
+        &[8, 4, 0, 0],
+        "option at byte 0 of the options: it needs 8 bytes, but only 4 are left",
     );
     options_are(
         "0001 02 80",
         7,
-        &[5, 1, 1],
-        "an option's length field says 1, but an option of its type has 5",
+        &[5, 1, 1, 0],
+        "option at byte 0 of the options: its length field says 1, but an option of its type has 5",
     );
     options_are(
         "000077",
         8,
-        &[],
-        "an option's length field is 0; it is at least 1",
+        &[0],
+        "option at byte 0 of the options: its length field is 0; it is at least 1",
     );
     for (string, values, text) in [
         (
             "00040100 014120",
-            &[2, 2, 32, 0][..],
+            &[2, 2, 32, 0, 6][..],
             "the item at byte 2 says that 32 bytes follow, but 0 are left",
         ),
-        ("00010100", &[1], "it ends without a closing zero byte"),
+        ("00010100", &[1, 4], "it ends without a closing zero byte"),
         (
             "00030100 0000",
-            &[3, 0],
+            &[3, 0, 4],
             "bytes follow the closing zero byte, which is byte 0",
         ),
         (
             "00040100 013D00",
-            &[4, 0],
+            &[4, 0, 4],
             "the item at byte 0 has nothing before its '='",
         ),
         (
             "00050100 0241FF00",
-            &[5, 0, 1, 255],
+            &[5, 0, 1, 255, 4],
             "in the item at byte 0, byte 1 of the key is 0xff; keys are 0x20 to 0x7e",
         ),
         (
             "00040100 012000",
-            &[6, 0],
+            &[6, 0, 4],
             "the item at byte 0 has a key of spaces only",
         ),
     ] {
+        let place = values.last().unwrap();
         options_are(
             string,
             9,
             values,
-            &format!("a configuration string is wrong: {text}"),
+            &format!("configuration string wrong at byte {place} of the options: {text}"),
         );
     }
     options_are(
         "00017700",
         10,
-        &[0x77],
-        "an option has the unknown type 0x77 and may not be discarded; the discard setting would pass it",
+        &[0x77, 3],
+        "option of unknown type 0x77 may not be discarded, by byte 3 of the options; the discard setting would pass it",
     );
 }
 

@@ -112,20 +112,20 @@ fn unknown_options() {
     let may = payload(&[], &hex("00017780"));
     let may_not = payload(&[], &hex("00017700"));
     assert_eq!(read(&may, false), (0, vec![0, 1]));
-    assert_eq!(read(&may_not, false), (10, vec![0x77]));
+    assert_eq!(read(&may_not, false), (10, vec![0x77, 3]));
     assert_eq!(read(&may_not, true), (0, vec![0, 1]));
 }
 
 #[test]
 fn strings() {
     for (text, values) in [
-        ("", &[1][..]),
-        ("0000", &[3, 0]),
-        ("013D00", &[4, 0]),
-        ("012000", &[6, 0]),
-        ("0241FF00", &[5, 0, 1, 255]),
-        ("054100", &[2, 0, 5, 2]),
-        ("0141", &[1]),
+        ("", &[1, 0][..]),
+        ("0000", &[3, 0, 0]),
+        ("013D00", &[4, 0, 0]),
+        ("012000", &[6, 0, 0]),
+        ("0241FF00", &[5, 0, 1, 255, 0]),
+        ("054100", &[2, 0, 5, 2, 0]),
+        ("0141", &[1, 2]),
     ] {
         let refusal = validate_configuration_string(&hex(text)).unwrap_err();
         assert_eq!(

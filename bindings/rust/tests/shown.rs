@@ -2,7 +2,9 @@
 
 mod common;
 use common::*;
-use viaductle::sd::{OffsetTable, SdEntriesIterator, SdMessage, SdOptionsIndex, SdSlice};
+use viaductle::sd::{
+    OffsetTable, SdEntriesIterator, SdMessage, SdOptionsIndex, SdOptionsIterator, SdSlice,
+};
 use viaductle::{TpBuf, TpStream};
 
 const OFFER: &str = "OfferService { service_id: 0x1234, instance_id: 0x5678, major_version: 1, ttl: 3600, run_1: 0..1, run_2: 0..0, minor_version: 16777216 }";
@@ -77,6 +79,11 @@ fn every_kind() {
     assert_eq!(
         format!("{:?}", SdEntriesIterator::new(&entries)),
         "SdEntriesIterator([])"
+    );
+    let options = hex("0002 77 80AA 0000");
+    assert_eq!(
+        format!("{:?}", SdOptionsIterator::new(&options)),
+        "SdOptionsIterator([Unknown { option_type: 0x77, discardable: true, slice: [80, aa] }, refused, 7: option at byte 0 of what was read: it needs 3 bytes, but only 2 are left])"
     );
 }
 

@@ -1,8 +1,8 @@
-//! The words of a refusal here and in `bin/show` (crates/sd_show/src/words.rt) are the same. That file's arms are read as text: an arm prints its
+//! The words of a refusal here and in `bin/show` (crates/words/src/lib.rt) are the same. That file's arms are read as text: an arm prints its
 //! literals, in which `%` and two characters stand for a value: its place, and `d` for decimal or how many hexadecimal digits.
 
 use std::{fs, path::Path};
-use viaductle::{LenSource, Refusal, SdConfigurationStringError};
+use viaductle::{LenSource, Place, Refusal, SdConfigurationStringError};
 
 /// What some code prints, its numbers as {place of the value} or {place:digits in hexadecimal}.
 fn printed(code: &str) -> String {
@@ -59,21 +59,30 @@ fn said(refusal: Refusal, values: &[u64]) -> String {
 /// A value that no text has.
 const WHICH: u64 = 7_777_777;
 
+/// Where 7 to 10 went wrong. What `bin/show` reads is a payload or a message, whose places count from the options.
+const BYTE: usize = 6001;
+const PLACE: Place = Place::Options(BYTE);
+
 #[test]
 fn bin_show_says_the_same() {
-    let file = Path::new(env!("CARGO_MANIFEST_DIR")).join("../../crates/sd_show/src/words.rt");
+    let file = Path::new(env!("CARGO_MANIFEST_DIR")).join("../../crates/words/src/lib.rt");
     let Ok(source) = fs::read_to_string(file) else {
         println!("not in the repository: nothing to compare with");
         return;
     };
     assert!(source.contains("b\"refused, \"") && source.contains("b\": \""));
 
-    // The first value of 9 is which of the six it is.
+    // The first value of 9 is which of the six it is. In front of its words stands where it went wrong: the place is the one value handed there.
     use SdConfigurationStringError::*;
+    let front = arms(&source, "Refusal")
+        .into_iter()
+        .find(|(name, _)| name == "ConfigurationString")
+        .map(|(_, text)| text.replace("{0}", &BYTE.to_string()))
+        .unwrap();
     let string = |error, values: &[u64]| {
-        let text = said(Refusal::ConfigurationString(error), values);
-        let text = text.strip_prefix("a configuration string is wrong: ");
-        text.unwrap().to_string()
+        let place = PLACE;
+        let text = said(Refusal::ConfigurationString { error, place }, values);
+        text.strip_prefix(&front).expect(&front).to_string()
     };
     let (a, b) = (4001, 4002);
     let expected = [
@@ -114,8 +123,9 @@ fn bin_show_says_the_same() {
             required_len: a,
             len: b,
             len_source,
+            place: PLACE,
         };
-        said(refusal, &[4001, 4002])
+        said(refusal, &[4001, 4002, WHICH, 6001])
     };
     let found = arms(&source, "LengthSource");
     assert_eq!(found[0].1, length(LenSource::Slice));
@@ -137,8 +147,14 @@ fn bin_show_says_the_same() {
             },
             &[4001, 4002],
         ),
-        (OptionLengthZero, &[]),
-        (UnknownSdOptionType(201), byte),
+        (OptionLengthZero { place: PLACE }, &[6001]),
+        (
+            UnknownSdOptionType {
+                option_type: 201,
+                place: PLACE,
+            },
+            &[201, 6001],
+        ),
         (UnknownSdServiceEntryType(201), byte),
         (
             SdOptionRunOutOfBounds {

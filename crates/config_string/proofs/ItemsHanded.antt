@@ -51,7 +51,7 @@ module _ (s : List ℕ) (at : ℕ) (items : List (List ℕ)) (read : items-left 
   step = go (leb (length s) at) (eqb (getD s at 0) 0) refl refl
     where
       go : (e z : Bool) → leb (length s) at ≡ e → eqb (getD s at 0) 0 ≡ z → Last s at items ⊎ First s at items
-      go true z out zero-byte = not-refused missing-terminator items (sym (left-end s at (leb-true _ _ out)) ∙ read)
+      go true z out zero-byte = not-refused (missing-terminator at) items (sym (left-end s at (leb-true _ _ out)) ∙ read)
       go false true out zero-byte = inl (last (leb-false _ _ out) (eqb-true _ _ zero-byte))
       go false false out some = inr (first (leb-false _ _ out) (eqb-false _ _ some))
 

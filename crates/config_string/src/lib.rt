@@ -1,6 +1,7 @@
 // The check of a configuration string: items of a length byte and that many bytes, closed by a zero length byte, which must be the last byte.
 // One function for each rule, all with the same answer; an item's bytes are looked at once, and no further than its key.
-// Below, `at` is the place of the item's length byte, which the errors give.
+// Below, `at` is the place of the item's length byte, which the errors give and at which they are told; a string that does not end is refused at
+// its own end.
 mod classes; // classes.rt: the table of byte classes
 
 use classes::OUTSIDE;
@@ -19,11 +20,11 @@ ghost use Rattle.config_string.specs.Classes.{Classified};
 ghost use Rattle.config_string.specs.Keys.{judge-end};
 ghost use Rattle.config_string.specs.Items.{next-item, past};
 
-// A string refused by one of the six errors.
-fn refuse(error: StringError) -> Verdict
-    ensures { λ r. ⌜ verdict-said r ≡ refused (string-said error) ⌝ }
+// A string refused at a place by one of the six errors.
+fn refuse(error: StringError, place: usize) -> Verdict
+    ensures { λ r. ⌜ verdict-said r ≡ refused (string-said error place) ⌝ }
 {
-    Verdict::Refused(Refusal::ConfigurationString(error))
+    Verdict::Refused(Refusal::ConfigurationString { error, place })
 }
 
 // A key that ends after `len` bytes, each of them in 0x20 to 0x7e: it is neither empty nor all spaces.
@@ -31,10 +32,13 @@ fn check_end_of_key(at: usize, len: usize, blank: bool) -> Verdict
     ensures { λ r. ⌜ verdict-said r ≡ judge-end at len blank ⌝ }
 {
     if len == 0 {
-        return refuse(StringError::EmptyKey { item_offset: at });
+        return refuse(StringError::EmptyKey { item_offset: at }, at);
     }
     if blank {
-        return refuse(StringError::KeyContainsOnlyWhitespace { item_offset: at });
+        return refuse(
+            StringError::KeyContainsOnlyWhitespace { item_offset: at },
+            at,
+        );
     }
     Verdict::Passed
 }
@@ -51,11 +55,14 @@ fn check_key(classes: &[u8; 256], at: usize, item: &[u8]) -> Verdict
         let class = class_of(classes, b);
         if class < SPACE {
             if class == OUTSIDE {
-                return refuse(StringError::InvalidKeyByte {
-                    item_offset: at,
-                    byte_offset: i,
-                    value: b,
-                });
+                return refuse(
+                    StringError::InvalidKeyByte {
+                        item_offset: at,
+                        byte_offset: i,
+                        value: b,
+                    },
+                    at,
+                );
             }
             return check_end_of_key(at, i, seen == SPACE);
         }
@@ -73,11 +80,14 @@ fn check_item(classes: &[u8; 256], at: usize, size: u8, rest: &[u8]) -> Verdict
     let n = size as usize;
     if rest.len() < n {
         // written out and not by `refuse`: quicker (docs/SPEED.md)
-        return Verdict::Refused(Refusal::ConfigurationString(StringError::ItemLengthExceedsRemaining {
-            item_offset: at,
-            item_length: size,
-            remaining: rest.len(),
-        }));
+        return Verdict::Refused(Refusal::ConfigurationString {
+            error: StringError::ItemLengthExceedsRemaining {
+                item_offset: at,
+                item_length: size,
+                remaining: rest.len(),
+            },
+            place: at,
+        });
     }
     check_key(classes, at, &rest[..n])
 }
@@ -89,9 +99,12 @@ fn check_terminator(at: usize, rest: &[u8]) -> Verdict
     if rest.len() == 0 {
         return Verdict::Passed;
     }
-    refuse(StringError::TrailingDataAfterTerminator {
-        terminator_offset: at,
-    })
+    refuse(
+        StringError::TrailingDataAfterTerminator {
+            terminator_offset: at,
+        },
+        at,
+    )
 }
 
 // A whole configuration string: its items from the front, up to the first that is refused, and the terminator.
@@ -112,7 +125,7 @@ pub fn check_string(s: &[u8]) -> Verdict
         };
         at = start + size as usize;
     }
-    refuse(StringError::MissingTerminator)
+    refuse(StringError::MissingTerminator, at)
 }
 
 // ---- a cursor over the items: a place in the string, in by value and back

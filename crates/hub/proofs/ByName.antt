@@ -6,7 +6,7 @@ use mathlib.Core.List.{List, [], _∷_, _++_}
 use native.Mathlib.Omega.{arith}
 use lib.ListN.{length, take, drop, getD}
 use lib.Seq.{take-at, take-all}
-use Rattle.numbers.specs.Refusals.{Refusal}
+use Rattle.numbers.specs.Refusals.{Refusal, gives}
 use Rattle.numbers.specs.Answers as paper
 use Rattle.numbers.specs.Bytes.{be16}
 use Rattle.numbers.proofs.AnswerLaws.{accepted-inj, when-accepted, then-accepted}
@@ -172,9 +172,9 @@ pub by-name : ByName
 by-name =
     record {
       entry = λ e r is. subst (λ (x : Entry). (x .answer ≡ row 0 []) × TellsEntry e x) (sym is) (entry-zero e, entry-by-name e);
-      no-entry = λ q r is. subst (λ (x : Entry). (x .answer ≡ row (q .number) (q .values)) × EmptyEntry x) (sym is) (refl, empty-entry q);
+      no-entry = λ q r is. subst (λ (x : Entry). (x .answer ≡ row (q .number) (gives q)) × EmptyEntry x) (sym is) (refl, empty-entry q);
       option = λ g o fit r is. subst (λ (x : Option). (x .answer ≡ row 0 []) × TellsOption o x) (sym is) (option-zero (length (lay-option o)) o, option-by-name g o fit);
-      no-option = λ q r is. subst (λ (x : Option). (x .answer ≡ row (q .number) (q .values)) × EmptyOption x) (sym is) (refl, empty-option q);
+      no-option = λ q r is. subst (λ (x : Option). (x .answer ≡ row (q .number) (gives q)) × EmptyOption x) (sym is) (refl, empty-option q);
       item = item-by-name;
       verdict = refl;
       count = λ n. refl;

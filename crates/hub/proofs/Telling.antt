@@ -5,6 +5,7 @@ use mathlib.Core.List.{List}
 use native.Mathlib.Omega.{arith}
 use lib.ListN.{length}
 use Rattle.numbers.specs.Refusals as paper
+use Rattle.numbers.specs.Refusals.{gives}
 use Rattle.refusal.specs.declared.Refusal.{Refusal}
 use Rattle.refusal.specs.Said.{places, said}
 use Rattle.refusal.specs.Rows as Rows
@@ -19,7 +20,7 @@ pub telling : {A : Type 0} (values : A → List ℕ) → Telling values
 telling values =
     record {
       accepted = λ a few. numbered 0 (values a) few;
-      refused = λ r. subst (λ (q : paper.Refusal). Numbered (Rows.row r .number) (Rows.row r .values) (refusal-row q)) (sym (rows .rows r))
-          (numbered (Rows.row r .number) (Rows.row r .values) (rows .few r));
+      refused = λ r. subst (λ (q : paper.Refusal). Numbered (Rows.row r .number) (gives (Rows.row r)) (refusal-row q)) (sym (rows .rows r))
+          (numbered (Rows.row r .number) (gives (Rows.row r)) (rows .few r));
       never-zero = λ r e. omega (arith, rows .never-zero r);
     }

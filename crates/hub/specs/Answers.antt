@@ -2,7 +2,7 @@
 use Prim.Native.Nat.{ℕ, _+_}
 use mathlib.Core.List.{List, [], _∷_}
 use lib.ListN.{length}
-use Rattle.numbers.specs.Refusals.{Refusal}
+use Rattle.numbers.specs.Refusals.{Refusal, gives}
 use Rattle.numbers.specs.Answers as paper
 use Rattle.sd_format.specs.Frames.{Frame}
 use Rattle.sd_format.specs.Frames as Frames
@@ -21,7 +21,7 @@ abbrev pub without-count : Numbers → Answer
 without-count n = record { number = n .number; values = n .values }
 
 abbrev pub refusal-row : Refusal → Answer
-refusal-row r = row (r .number) (r .values)
+refusal-row r = row (r .number) (gives r)
 
 -- what was accepted as 0 with these values, or the refusal
 abbrev pub told : {A : Type 0} → (A → List ℕ) → paper.Answer A → Answer

@@ -6,7 +6,7 @@ use Prim.Native.Nat.{ℕ, _+_, _*_, _/_}
 use mathlib.Core.Path.{_≡_}
 use mathlib.Core.List.{List, [], _∷_, _++_}
 use lib.ListN.{length, take, drop, getD}
-use Rattle.numbers.specs.Refusals.{Refusal}
+use Rattle.numbers.specs.Refusals.{Refusal, gives}
 use Rattle.numbers.specs.Answers as paper
 use Rattle.numbers.specs.Bytes.{be16, be24, be32}
 use Rattle.sd_format.specs.Settings.{Settings}
@@ -105,9 +105,9 @@ pub record TellsItem (s : List ℕ) (at : ℕ) (item : List ℕ) (r : Answer) : 
 
 pub record ByName : Type 0 where
   pub entry : (e : format.Entry) (r : Entry) → r ≡ entry-told (paper.accepted e) → (r .answer ≡ row 0 []) × TellsEntry e r
-  pub no-entry : (q : Refusal) (r : Entry) → r ≡ entry-told (paper.refused q) → (r .answer ≡ row (q .number) (q .values)) × EmptyEntry r
+  pub no-entry : (q : Refusal) (r : Entry) → r ≡ entry-told (paper.refused q) → (r .answer ≡ row (q .number) (gives q)) × EmptyEntry r
   pub option : (g : Settings) (o : Opt) → OptionFits g o → (r : Option) → r ≡ option-fields (length (lay-option o)) o → (r .answer ≡ row 0 []) × TellsOption o r
-  pub no-option : (q : Refusal) (r : Option) → r ≡ option-told (paper.refused q) → (r .answer ≡ row (q .number) (q .values)) × EmptyOption r
+  pub no-option : (q : Refusal) (r : Option) → r ≡ option-told (paper.refused q) → (r .answer ≡ row (q .number) (gives q)) × EmptyOption r
   pub item : (s : List ℕ) (at : ℕ) (item : List ℕ) → next-item s at ≡ paper.accepted item → TellsItem s at item (told (item-values at) (next-item s at))
   -- a verdict is told with no value, a count with itself
   pub verdict : told no-values paper.pass ≡ row 0 []

@@ -1,12 +1,12 @@
 -- Laws of answers: which way a test goes, and what an acceptance says. Assumes nothing.
 use mathlib.Core.Path.{_≡_, refl, sym, ap, _∙_}
 use mathlib.Core.Bool.{Bool, true, false, not, false≢true}
-use Prim.Native.Nat.{ℕ}
+use Prim.Native.Nat.{ℕ, _+_}
 use mathlib.Core.List.{List, [], _∷_}
-use mathlib.Core.Logic.{_↔_}
+use mathlib.Core.Logic.{_↔_, _⊎_, inl, inr}
 use native.Mathlib.Omega.{arith}
-use Rattle.numbers.specs.Refusals.{Refusal}
-use Rattle.numbers.specs.Answers.{Answer, accepted, refused, Verdict, pass, _>>=_, _>>_, refuse_when_else_, each, given, All}
+use Rattle.numbers.specs.Refusals.{Place, untold, told, Refusal, _at-byte_, moved-place, moved}
+use Rattle.numbers.specs.Answers.{Answer, accepted, refused, Verdict, pass, _>>=_, _>>_, refuse_when_else_, further, given, All}
 
 module _ {A : Type 0} where
   pub when-hit : (r : Refusal) (b : Bool) (a : Answer A) → b ≡ true → (refuse r when b else a) ≡ refused r
@@ -67,15 +67,47 @@ module _ {B : Type 0} where
   unfolding _>>_
   then-pass v a e = rw e
 
--- the tests of a list pass exactly when each passes
-module _ {A : Type 0} (f : A → Verdict) (P : A → Type 0) (fits : (x : A) → (f x ≡ pass) ↔ P x) where
-  pub each-pass : (xs : List A) → (each f xs ≡ pass) ↔ All P xs
-  unfolding each
-  each-pass [] = ((λ e. tt), (λ h. refl))
-  each-pass (x ∷ xs) = (
-    (λ e. let w = then-accepted (f x) (each f xs) tt e in (fits x .0 (w .0), each-pass xs .0 (w .1))),
-    (λ h. then-pass (f x) (each f xs) (fits x .1 (h .0)) ∙ each-pass xs .1 (h .1)),
-  )
+-- what a refusal says: it is that of one part, and those before it passed
+module _ {A : Type 0} where
+  pub when-refused : (r : Refusal) (b : Bool) (a : Answer A) (q : Refusal) → (refuse r when b else a) ≡ refused q → (r ≡ q) ⊎ ((b ≡ false) × (a ≡ refused q))
+  unfolding refuse_when_else_
+  when-refused r true a q e = inl (refused-inj r q e)
+  when-refused r false a q e = inr (refl, e)
+
+  pub then-refused : (v : Verdict) (a : Answer A) (q : Refusal) → (v >> a) ≡ refused q → (v ≡ refused q) ⊎ ((v ≡ pass) × (a ≡ refused q))
+  unfolding _>>_
+  then-refused (accepted x) a q e = inr (refl, e)
+  then-refused (refused r) a q e = inl (ap refused (refused-inj {A = A} r q e))
+
+  pub further-refused : (n : ℕ) (a : Answer A) (q : Refusal) → further n a ≡ refused q → (r : Refusal) × (a ≡ refused r) × (moved n r ≡ q)
+  unfolding further
+  further-refused n (accepted x) q e = not-refused q x (sym e)
+  further-refused n (refused r) q e = (r, refl, refused-inj (moved n r) q e)
+
+module _ {A B : Type 0} where
+  pub bind-stopped : (m : Answer A) (f : A → Answer B) (q : Refusal) → (m >>= f) ≡ refused q
+      → (m ≡ refused q) ⊎ ((x : A) × (m ≡ accepted x) × (f x ≡ refused q))
+  unfolding _>>=_
+  bind-stopped (accepted x) f q e = inr (x, refl, e)
+  bind-stopped (refused r) f q e = inl (ap refused (refused-inj {A = B} r q e))
+
+-- a place that is moved
+pub moved-there : (r : Refusal) (n p : ℕ) → r .place ≡ told p → moved n r ≡ (r at-byte n + p)
+moved-there r n p e = λ i. record { number = r .number; values = r .values; place = moved-place n (e i) }
+
+moved-place-twice : (m n : ℕ) (p : Place) → moved-place m (moved-place n p) ≡ moved-place (m + n) p
+moved-place-twice m n untold = refl
+moved-place-twice m n (told p) = ap told (omega arith)
+
+pub moved-twice : (m n : ℕ) (r : Refusal) → moved m (moved n r) ≡ moved (m + n) r
+moved-twice m n r = λ i. record { number = r .number; values = r .values; place = moved-place-twice m n (r .place) i }
+
+-- where a refusal stands does not touch what is accepted
+module _ {A : Type 0} where
+  pub further-accepted : (n : ℕ) (a : Answer A) (x : A) → (further n a ≡ accepted x) ↔ (a ≡ accepted x)
+  unfolding further
+  further-accepted n (accepted y) x = ((λ e. e), (λ e. e))
+  further-accepted n (refused r) x = ((λ e. not-refused _ x e), (λ e. not-refused r x e))
 
 -- a test, and what comes after it
 module _ {A : Type 0} where

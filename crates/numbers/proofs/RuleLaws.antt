@@ -2,10 +2,9 @@
 use mathlib.Core.Path.{_≡_, refl, sym, ap, _∙_}
 use mathlib.Core.Bool.{Bool, true, false, false≢true}
 use mathlib.Core.Logic.{_↔_, _⊎_, inl, inr, ⊎-elim}
-use mathlib.Core.List.{List, [], _∷_, _++_}
 use Rattle.numbers.specs.Refusals.{Refusal}
-use Rattle.numbers.specs.Answers.{Answer, accepted, refused, Verdict, pass, _>>=_, _>>_, refuse_when_else_, each, given, All}
-use Rattle.numbers.specs.Rules.{Rules, accept, _if_else_, part_else_, _then_, Refuses, Accepts, Follows, FirstRefused}
+use Rattle.numbers.specs.Answers.{Answer, accepted, refused, Verdict, pass, _>>=_, _>>_, refuse_when_else_, given}
+use Rattle.numbers.specs.Rules.{Rules, accept, _if_else_, part_else_, _then_, Refuses, Accepts, Follows}
 use Rattle.numbers.proofs.AnswerLaws.{not-refused, refused-inj, given-refused}
 
 -- ---- rules behind rules
@@ -123,25 +122,3 @@ follows-part P (refused q) says = record {
 pub given-refuses : {A B : Type 0} (f : A → B) (m : Answer A) (r : Refusal) → (given f m ≡ refused r) ↔ (m ≡ refused r)
 unfolding given
 given-refuses f m r = (given-refused f m r, ap (given f))
-
--- ---- the first element that is refused
-
-module _ {A : Type 0} (test : A → Verdict) where
-  first-refused : (xs : List A) (r : Refusal) → each test xs ≡ refused r → FirstRefused test xs r
-  unfolding each _>>_
-  first-refused [] r e = not-refused r tt (sym e)
-  first-refused (x ∷ xs) r e = go (test x) refl e (first-refused xs r)
-    where
-      go : (v : Verdict) → test x ≡ v → (v >> each test xs) ≡ refused r → (each test xs ≡ refused r → FirstRefused test xs r) → FirstRefused test (x ∷ xs) r
-      go (accepted u) h k later =
-          let w = later k in
-          record { before = x ∷ w .before; one = w .one; behind = w .behind; among = ap (λ (l : List A). x ∷ l) (w .among); passed = (h, w .passed); refused-there = w .refused-there }
-      go (refused q) h k later = record { before = []; one = x; behind = xs; among = refl; passed = tt; refused-there = h ∙ k }
-
-  refused-first : (before behind : List A) (x : A) (r : Refusal) → All (λ y. test y ≡ pass) before → test x ≡ refused r → each test (before ++ (x ∷ behind)) ≡ refused r
-  unfolding each _>>_
-  refused-first [] behind x r passed e = rw e
-  refused-first (y ∷ before) behind x r passed e = rw (passed .0) (refused-first before behind x r (passed .1) e)
-
-  pub each-refused : (xs : List A) (r : Refusal) → (each test xs ≡ refused r) ↔ FirstRefused test xs r
-  each-refused xs r = (first-refused xs r, (λ w. rw (w .among) (refused-first (w .before) (w .behind) (w .one) r (w .passed) (w .refused-there))))

@@ -3,7 +3,7 @@ use Prim.Native.Nat.{ℕ}
 use mathlib.Core.Path.{_≡_}
 use mathlib.Core.Bool.{Bool, true, false}
 use mathlib.Core.List.{List, [], _∷_}
-use Rattle.numbers.specs.Refusals.{Refusal, refusal}
+use Rattle.numbers.specs.Refusals.{Refusal, gives, moved}
 
 pub data Answer (A : Type 0) : Type 0 where
   accepted : A → Answer A
@@ -31,15 +31,15 @@ unfoldable pub refuse_when_else_ : {A : Type 0} → Refusal → Bool → Answer 
 refuse_when_else_ r true a = refused r
 refuse_when_else_ r false a = a
 
--- the refusal of the first element that is refused
-unfoldable pub each : {A : Type 0} → (A → Verdict) → List A → Verdict
-each f [] = pass
-each f (x ∷ xs) = f x >> each f xs
-
 -- what was accepted, in another form
 unfoldable pub given : {A B : Type 0} → (A → B) → Answer A → Answer B
 given f (accepted a) = accepted (f a)
 given f (refused r) = refused r
+
+-- a refusal's place, counted from `n` bytes further to the front
+unfoldable pub further : {A : Type 0} → ℕ → Answer A → Answer A
+further n (accepted a) = accepted a
+further n (refused r) = refused (moved n r)
 
 -- each element has the property
 abbrev pub All : {A : Type 0} → (A → Type 0) → List A → Type 0
@@ -55,7 +55,12 @@ part (refused r) = []
 abbrev pub verdict : {A : Type 0} → Answer A → Verdict
 verdict = given (λ a. tt)
 
+-- an answer as numbers: 0, or the refusal's number and the values that it gives
+abbrev pub numbered : {A : Type 0} → Answer A → List ℕ
+numbered (accepted a) = 0 ∷ []
+numbered (refused r) = r .number ∷ gives r
+
 infix 3 _gives_with_
--- the refusal of this number with these values
+-- the refusal of this number with these values, its place as the last of them
 abbrev pub _gives_with_ : {A : Type 0} → Answer A → ℕ → List ℕ → Type 0
-_gives_with_ a n vs = a ≡ refused (refusal n vs)
+_gives_with_ a n vs = numbered a ≡ n ∷ vs

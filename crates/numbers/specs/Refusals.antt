@@ -1,14 +1,40 @@
 -- The rules' table of refusals: each refusal by its number, with the values that it gives, in that order.
 -- Assumes nothing: these are definitions.
-use Prim.Native.Nat.{ℕ}
-use mathlib.Core.List.{List, [], _∷_}
+use Prim.Native.Nat.{ℕ, _+_}
+use mathlib.Core.List.{List, [], _∷_, _++_}
+
+-- the byte at which a reading was refused, where the refusal tells it: 7 to 10 do
+pub data Place : Type 0 where
+  untold : Place
+  told : ℕ → Place
 
 pub record Refusal : Type 0 where
   pub number : ℕ
   pub values : List ℕ
+  pub place : Place
 
 abbrev pub refusal : ℕ → List ℕ → Refusal
-refusal n vs = record { number = n; values = vs }
+refusal n vs = record { number = n; values = vs; place = untold }
+
+infixl 2 _at-byte_
+abbrev pub _at-byte_ : Refusal → ℕ → Refusal
+_at-byte_ r p = record { number = r .number; values = r .values; place = told p }
+
+-- the values that the table gives: the place is the last
+abbrev pub place-values : Place → List ℕ
+place-values untold = []
+place-values (told p) = p ∷ []
+
+abbrev pub gives : Refusal → List ℕ
+gives r = r .values ++ place-values (r .place)
+
+-- the same byte, counted from `n` bytes further to the front
+abbrev pub moved-place : ℕ → Place → Place
+moved-place n untold = untold
+moved-place n (told p) = told (n + p)
+
+abbrev pub moved : ℕ → Refusal → Refusal
+moved n r = record { number = r .number; values = r .values; place = moved-place n (r .place) }
 
 -- ---- the sizes of a payload
 
@@ -30,37 +56,38 @@ payload-too-large len = refusal 5 (len ∷ [])
 abbrev pub length-mismatch : (expected actual : ℕ) → Refusal
 length-mismatch expected actual = refusal 6 (expected ∷ actual ∷ [])
 
--- ---- one option; `source` is 0 for the slice, 1 for the option's length
+-- ---- one option; `source` is 0 for the slice, 1 for the option's length. A place is counted from the option's first byte.
 
 abbrev pub option-length : (needed had source : ℕ) → Refusal
-option-length needed had source = refusal 7 (needed ∷ had ∷ source ∷ [])
+option-length needed had source = refusal 7 (needed ∷ had ∷ source ∷ []) at-byte 0
 
 abbrev pub option-length-zero : Refusal
-option-length-zero = refusal 8 []
+option-length-zero = refusal 8 [] at-byte 0
 
 -- 9, the configuration string: which of the six errors, and its numbers. `item` is where the item's length byte stands in the string, `byte`
--- the place of a byte among the item's own.
+-- the place of a byte among the item's own. The place is counted from the string's first byte: the item, the terminator, or the string's end.
 
-abbrev pub missing-terminator : Refusal
-missing-terminator = refusal 9 (1 ∷ [])
+abbrev pub missing-terminator : (end : ℕ) → Refusal
+missing-terminator end = refusal 9 (1 ∷ []) at-byte end
 
 abbrev pub item-too-long : (item len remaining : ℕ) → Refusal
-item-too-long item len remaining = refusal 9 (2 ∷ item ∷ len ∷ remaining ∷ [])
+item-too-long item len remaining = refusal 9 (2 ∷ item ∷ len ∷ remaining ∷ []) at-byte item
 
 abbrev pub trailing-data : (terminator : ℕ) → Refusal
-trailing-data terminator = refusal 9 (3 ∷ terminator ∷ [])
+trailing-data terminator = refusal 9 (3 ∷ terminator ∷ []) at-byte terminator
 
 abbrev pub empty-key : (item : ℕ) → Refusal
-empty-key item = refusal 9 (4 ∷ item ∷ [])
+empty-key item = refusal 9 (4 ∷ item ∷ []) at-byte item
 
 abbrev pub invalid-key-byte : (item byte value : ℕ) → Refusal
-invalid-key-byte item byte value = refusal 9 (5 ∷ item ∷ byte ∷ value ∷ [])
+invalid-key-byte item byte value = refusal 9 (5 ∷ item ∷ byte ∷ value ∷ []) at-byte item
 
 abbrev pub only-whitespace : (item : ℕ) → Refusal
-only-whitespace item = refusal 9 (6 ∷ item ∷ [])
+only-whitespace item = refusal 9 (6 ∷ item ∷ []) at-byte item
 
+-- the byte with the discardable bit is the option's fourth
 abbrev pub unknown-option : (type : ℕ) → Refusal
-unknown-option type = refusal 10 (type ∷ [])
+unknown-option type = refusal 10 (type ∷ []) at-byte 3
 
 -- ---- one entry
 

@@ -36,12 +36,3 @@ Accepts (part P else later) = ((q : Refusal) → ¬ P q) × Accepts later
 pub record Follows {A : Type 0} (a : Answer A) (rules : Rules) : Type 0 where
   pub refuses : (r : Refusal) → (a ≡ refused r) ↔ Refuses rules r
   pub accepts : ((x : A) × (a ≡ accepted x)) ↔ Accepts rules
-
--- the first element that a test refuses
-pub record FirstRefused {A : Type 0} (test : A → Verdict) (xs : List A) (r : Refusal) : Type 0 where
-  pub before : List A
-  pub one : A
-  pub behind : List A
-  pub among : xs ≡ before ++ (one ∷ behind)
-  pub passed : All (λ x. test x ≡ pass) before
-  pub refused-there : test one ≡ refused r

@@ -1,3 +1,4 @@
 pub mod Arms
 pub mod OneToOne
+pub mod PlaceLaws
 pub mod Rows

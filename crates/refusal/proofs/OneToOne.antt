@@ -6,6 +6,7 @@ use mathlib.Core.Bool.{cond}
 use lib.ListN.{getD}
 use lib.Dec.{eqb}
 use Rattle.numbers.specs.Refusals as paper
+use Rattle.numbers.specs.Refusals.{Place, untold, told}
 use Rattle.refusal.specs.declared.LengthSource.{LengthSource}
 use Rattle.refusal.specs.declared.LengthSource.the-variants.{Slice, OptionLength}
 use Rattle.refusal.specs.declared.StringError.{StringError}
@@ -18,9 +19,9 @@ use Rattle.refusal.specs.declared.answers.Verdict.{Verdict}
 use Rattle.refusal.specs.declared.answers.Verdict.the-variants as verdict
 use Rattle.refusal.specs.declared.answers.Count.{Count}
 use Rattle.refusal.specs.declared.answers.Count.the-variants as count
-use Rattle.refusal.specs.Said.{said, string-said, verdict-said, count-said}
+use Rattle.refusal.specs.Said.{said, verdict-said, count-said}
 
--- ---- back from a number and its values, `v`; anything for what is never said
+-- ---- back from a number, its values, `v`, and its place, `p`; anything for what is never said
 
 source-of : ℕ → LengthSource
 source-of n = cond (eqb n 0) Slice OptionLength
@@ -34,18 +35,18 @@ string-of v =
     (cond (eqb (v 0) 5) (string.InvalidKeyByte (v 1) (v 2) (v 3))
     (string.KeyContainsOnlyWhitespace (v 1))))))
 
-refusal-of : ℕ → (ℕ → ℕ) → Refusal
-refusal-of n v =
+refusal-of : ℕ → (ℕ → ℕ) → ℕ → Refusal
+refusal-of n v p =
     cond (eqb n 1) (code.UnexpectedEndOfSlice (v 0))
     (cond (eqb n 2) (code.EntriesLengthTooLarge (v 0))
     (cond (eqb n 3) (code.EntriesLengthUneven (v 0))
     (cond (eqb n 4) (code.OptionsLengthTooLarge (v 0))
     (cond (eqb n 5) (code.PayloadTooLarge (v 0))
     (cond (eqb n 6) (code.PayloadLengthMismatch (v 0) (v 1))
-    (cond (eqb n 7) (code.OptionLength (v 0) (v 1) (source-of (v 2)))
-    (cond (eqb n 8) code.OptionLengthZero
-    (cond (eqb n 9) (code.ConfigurationString (string-of v))
-    (cond (eqb n 10) (code.UnknownOption (v 0))
+    (cond (eqb n 7) (code.OptionLength (v 0) (v 1) (source-of (v 2)) p)
+    (cond (eqb n 8) (code.OptionLengthZero p)
+    (cond (eqb n 9) (code.ConfigurationString (string-of v) p)
+    (cond (eqb n 10) (code.UnknownOption (v 0) p)
     (cond (eqb n 11) (code.UnknownEntry (v 0))
     (cond (eqb n 12) (code.RunOutOfBounds (v 0) (v 1) (v 2) (v 3))
     (cond (eqb n 13) (code.IndexTooLarge (v 0))
@@ -71,39 +72,30 @@ refusal-of n v =
 value : paper.Refusal → ℕ → ℕ
 value r i = getD (r .values) i 0
 
+abbrev byte-of : Place → ℕ
+byte-of untold = 0
+byte-of (told p) = p
+
 -- ---- and that it leads back
 
-string-back : (error : StringError) → string-of (value (string-said error)) ≡ error
-unfolding string-of value
-string-back string.MissingTerminator = refl
-string-back (string.ItemLengthExceedsRemaining b c d) = refl
-string-back (string.TrailingDataAfterTerminator b) = refl
-string-back (string.EmptyKey b) = refl
-string-back (string.InvalidKeyByte b c d) = refl
-string-back (string.KeyContainsOnlyWhitespace b) = refl
-
--- every error of a string has the number 9
-nine : (error : StringError) → string-said error .number ≡ 9
-nine string.MissingTerminator = refl
-nine (string.ItemLengthExceedsRemaining b c d) = refl
-nine (string.TrailingDataAfterTerminator b) = refl
-nine (string.EmptyKey b) = refl
-nine (string.InvalidKeyByte b c d) = refl
-nine (string.KeyContainsOnlyWhitespace b) = refl
-
-back : (r : Refusal) → refusal-of (said r .number) (value (said r)) ≡ r
-unfolding refusal-of source-of value
+back : (r : Refusal) → refusal-of (said r .number) (value (said r)) (byte-of (said r .place)) ≡ r
+unfolding refusal-of source-of string-of value
 back (code.UnexpectedEndOfSlice a) = refl
 back (code.EntriesLengthTooLarge a) = refl
 back (code.EntriesLengthUneven a) = refl
 back (code.OptionsLengthTooLarge a) = refl
 back (code.PayloadTooLarge a) = refl
 back (code.PayloadLengthMismatch a b) = refl
-back (code.OptionLength a b Slice) = refl
-back (code.OptionLength a b OptionLength) = refl
-back code.OptionLengthZero = refl
-back (code.ConfigurationString error) = rw (nine error) (ap code.ConfigurationString (string-back error))
-back (code.UnknownOption a) = refl
+back (code.OptionLength a b Slice p) = refl
+back (code.OptionLength a b OptionLength p) = refl
+back (code.OptionLengthZero p) = refl
+back (code.ConfigurationString string.MissingTerminator p) = refl
+back (code.ConfigurationString (string.ItemLengthExceedsRemaining a b c) p) = refl
+back (code.ConfigurationString (string.TrailingDataAfterTerminator a) p) = refl
+back (code.ConfigurationString (string.EmptyKey a) p) = refl
+back (code.ConfigurationString (string.InvalidKeyByte a b c) p) = refl
+back (code.ConfigurationString (string.KeyContainsOnlyWhitespace a) p) = refl
+back (code.UnknownOption a p) = refl
 back (code.UnknownEntry a) = refl
 back (code.RunOutOfBounds a b c d) = refl
 back (code.IndexTooLarge a) = refl
@@ -127,7 +119,7 @@ back code.NotComplete = refl
 back code.MalformedState = refl
 
 pub one-to-one : (x y : Refusal) → said x ≡ said y → x ≡ y
-one-to-one x y same = sym (back x) ∙ ap (λ (r : paper.Refusal). refusal-of (r .number) (value r)) same ∙ back y
+one-to-one x y same = sym (back x) ∙ ap (λ (r : paper.Refusal). refusal-of (r .number) (value r) (byte-of (r .place))) same ∙ back y
 
 -- ---- the answers: one-to-one, and so of any promise that says what they say there is one outcome
 

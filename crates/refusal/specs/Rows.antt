@@ -1,11 +1,11 @@
 -- The rules' table of numbers, row by row in literal numbers, for each case of the code: what `said` is shown to give. No name of a refusal's
 -- definition is used here. Assumes nothing: these are definitions.
-use Prim.Native.Nat.{ℕ, _<_, _≤_}
+use Prim.Native.Nat.{ℕ, _+_, _<_, _≤_}
 use mathlib.Core.Path.{_≡_}
 use mathlib.Core.List.{List, [], _∷_}
 use lib.ListN.{length, take, getD}
 use Rattle.numbers.specs.Refusals as paper
-use Rattle.numbers.specs.Refusals.{refusal}
+use Rattle.numbers.specs.Refusals.{refusal, _at-byte_, told, gives}
 use Rattle.numbers.specs.Answers.{accepted, refused}
 use Rattle.refusal.specs.declared.LengthSource.the-variants.{Slice, OptionLength}
 use Rattle.refusal.specs.declared.StringError.the-variants as string
@@ -14,9 +14,9 @@ use Rattle.refusal.specs.declared.Refusal.the-variants as code
 use Rattle.refusal.specs.declared.answers.Verdict.the-variants as verdict
 use Rattle.refusal.specs.declared.answers.Count.the-variants as count
 use Rattle.refusal.specs.declared.values.Numbers.{Numbers}
-use Rattle.refusal.specs.Said.{said, verdict-said, count-said, places, laid}
+use Rattle.refusal.specs.Said.{said, verdict-said, count-said, places, laid, capped}
 
--- a refusal's number and values
+-- a refusal's number and values, and where it tells a place, that
 abbrev pub row : Refusal → paper.Refusal
 row (code.UnexpectedEndOfSlice needed) = refusal 1 (needed ∷ [])
 row (code.EntriesLengthTooLarge len) = refusal 2 (len ∷ [])
@@ -24,16 +24,16 @@ row (code.EntriesLengthUneven len) = refusal 3 (len ∷ [])
 row (code.OptionsLengthTooLarge len) = refusal 4 (len ∷ [])
 row (code.PayloadTooLarge len) = refusal 5 (len ∷ [])
 row (code.PayloadLengthMismatch expected actual) = refusal 6 (expected ∷ actual ∷ [])
-row (code.OptionLength needed had Slice) = refusal 7 (needed ∷ had ∷ 0 ∷ [])
-row (code.OptionLength needed had OptionLength) = refusal 7 (needed ∷ had ∷ 1 ∷ [])
-row code.OptionLengthZero = refusal 8 []
-row (code.ConfigurationString string.MissingTerminator) = refusal 9 (1 ∷ [])
-row (code.ConfigurationString (string.ItemLengthExceedsRemaining item len remaining)) = refusal 9 (2 ∷ item ∷ len ∷ remaining ∷ [])
-row (code.ConfigurationString (string.TrailingDataAfterTerminator terminator)) = refusal 9 (3 ∷ terminator ∷ [])
-row (code.ConfigurationString (string.EmptyKey item)) = refusal 9 (4 ∷ item ∷ [])
-row (code.ConfigurationString (string.InvalidKeyByte item byte value)) = refusal 9 (5 ∷ item ∷ byte ∷ value ∷ [])
-row (code.ConfigurationString (string.KeyContainsOnlyWhitespace item)) = refusal 9 (6 ∷ item ∷ [])
-row (code.UnknownOption type) = refusal 10 (type ∷ [])
+row (code.OptionLength needed had Slice place) = refusal 7 (needed ∷ had ∷ 0 ∷ []) at-byte place
+row (code.OptionLength needed had OptionLength place) = refusal 7 (needed ∷ had ∷ 1 ∷ []) at-byte place
+row (code.OptionLengthZero place) = refusal 8 [] at-byte place
+row (code.ConfigurationString string.MissingTerminator place) = refusal 9 (1 ∷ []) at-byte place
+row (code.ConfigurationString (string.ItemLengthExceedsRemaining item len remaining) place) = refusal 9 (2 ∷ item ∷ len ∷ remaining ∷ []) at-byte place
+row (code.ConfigurationString (string.TrailingDataAfterTerminator terminator) place) = refusal 9 (3 ∷ terminator ∷ []) at-byte place
+row (code.ConfigurationString (string.EmptyKey item) place) = refusal 9 (4 ∷ item ∷ []) at-byte place
+row (code.ConfigurationString (string.InvalidKeyByte item byte value) place) = refusal 9 (5 ∷ item ∷ byte ∷ value ∷ []) at-byte place
+row (code.ConfigurationString (string.KeyContainsOnlyWhitespace item) place) = refusal 9 (6 ∷ item ∷ []) at-byte place
+row (code.UnknownOption type place) = refusal 10 (type ∷ []) at-byte place
 row (code.UnknownEntry type) = refusal 11 (type ∷ [])
 row (code.RunOutOfBounds run start count options) = refusal 12 (run ∷ start ∷ count ∷ options ∷ [])
 row (code.IndexTooLarge len) = refusal 13 (len ∷ [])
@@ -59,9 +59,15 @@ row code.MalformedState = refusal 38 []
 -- the numbers as data: the number, how many values, and the values in front, with nothing but zeros behind them
 pub record Data (r : paper.Refusal) (n : Numbers) : Type 0 where
   pub number : n .number ≡ r .number
-  pub count : n .count ≡ length (r .values)
-  pub values : take (length (r .values)) (n .values) ≡ r .values
-  pub zeros-behind : (i : ℕ) → length (r .values) ≤ i → getD (n .values) i 0 ≡ 0
+  pub count : n .count ≡ length (gives r)
+  pub values : take (length (gives r)) (n .values) ≡ gives r
+  pub zeros-behind : (i : ℕ) → length (gives r) ≤ i → getD (n .values) i 0 ≡ 0
+
+-- a place `p` among the numbers as data: the last, behind all the other values
+pub record Last (r : paper.Refusal) (n : Numbers) (p : ℕ) : Type 0 where
+  pub one-more : n .count ≡ length (r .values) + 1
+  pub others-in-front : take (length (r .values)) (n .values) ≡ r .values
+  pub there : getD (n .values) (length (r .values)) 0 ≡ p
 
 pub record Rows : Type 0 where
   -- each refusal says its row, and no row has the number of an acceptance
@@ -73,5 +79,11 @@ pub record Rows : Type 0 where
   pub counted : (n : ℕ) → count-said (count.Good n) ≡ accepted n
   pub count-refused : (r : Refusal) → count-said (count.Refused r) ≡ refused (row r)
   -- as data: there are places for all values
-  pub few : (r : Refusal) → length (row r .values) ≤ places
+  pub few : (r : Refusal) → length (gives (row r)) ≤ places
   pub data-of : (r : Refusal) → Data (row r) (laid (said r))
+  pub place-last : (r : Refusal) (p : ℕ) → row r .place ≡ told p → Last (row r) (laid (said r)) p
+
+-- a place counted from further to the front is as it is where a `usize` holds it, and else the largest `usize`
+pub record Capped : Type 0 where
+  pub held : (p : ℕ) → p ≤ 18446744073709551615 → capped p ≡ p
+  pub not-held : (p : ℕ) → 18446744073709551615 < p → capped p ≡ 18446744073709551615

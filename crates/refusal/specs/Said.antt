@@ -1,9 +1,12 @@
 -- The rules' number and values for everything that the code refuses, and what the answers say that all layers share. Assumes nothing:
 -- these are definitions.
-use Prim.Native.Nat.{ℕ, zero, suc}
+use Prim.Native.Nat.{ℕ, zero, suc, _+_}
+use mathlib.Core.Bool.{cond}
 use mathlib.Core.List.{List, [], _∷_}
 use lib.ListN.{length}
+use lib.Dec.{ltb}
 use Rattle.numbers.specs.Refusals as paper
+use Rattle.numbers.specs.Refusals.{_at-byte_, Place, untold, told}
 use Rattle.numbers.specs.Answers as answers
 use Rattle.refusal.specs.declared.LengthSource.{LengthSource}
 use Rattle.refusal.specs.declared.LengthSource.the-variants.{Slice, OptionLength}
@@ -22,13 +25,14 @@ abbrev pub source-number : LengthSource → ℕ
 source-number Slice = 0
 source-number OptionLength = 1
 
-abbrev pub string-said : StringError → paper.Refusal
-string-said string.MissingTerminator = paper.missing-terminator
-string-said (string.ItemLengthExceedsRemaining item len remaining) = paper.item-too-long item len remaining
-string-said (string.TrailingDataAfterTerminator terminator) = paper.trailing-data terminator
-string-said (string.EmptyKey item) = paper.empty-key item
-string-said (string.InvalidKeyByte item byte value) = paper.invalid-key-byte item byte value
-string-said (string.KeyContainsOnlyWhitespace item) = paper.only-whitespace item
+-- an error of a string, told at a place
+abbrev pub string-said : StringError → (place : ℕ) → paper.Refusal
+string-said string.MissingTerminator place = paper.missing-terminator place
+string-said (string.ItemLengthExceedsRemaining item len remaining) place = paper.item-too-long item len remaining at-byte place
+string-said (string.TrailingDataAfterTerminator terminator) place = paper.trailing-data terminator at-byte place
+string-said (string.EmptyKey item) place = paper.empty-key item at-byte place
+string-said (string.InvalidKeyByte item byte value) place = paper.invalid-key-byte item byte value at-byte place
+string-said (string.KeyContainsOnlyWhitespace item) place = paper.only-whitespace item at-byte place
 
 abbrev pub said : Refusal → paper.Refusal
 said (code.UnexpectedEndOfSlice needed) = paper.unexpected-end needed
@@ -37,10 +41,10 @@ said (code.EntriesLengthUneven len) = paper.entries-uneven len
 said (code.OptionsLengthTooLarge len) = paper.options-too-large len
 said (code.PayloadTooLarge len) = paper.payload-too-large len
 said (code.PayloadLengthMismatch expected actual) = paper.length-mismatch expected actual
-said (code.OptionLength needed had source) = paper.option-length needed had (source-number source)
-said code.OptionLengthZero = paper.option-length-zero
-said (code.ConfigurationString error) = string-said error
-said (code.UnknownOption type) = paper.unknown-option type
+said (code.OptionLength needed had source place) = paper.option-length needed had (source-number source) at-byte place
+said (code.OptionLengthZero place) = paper.option-length-zero at-byte place
+said (code.ConfigurationString error place) = string-said error place
+said (code.UnknownOption type place) = paper.unknown-option type at-byte place
 said (code.UnknownEntry type) = paper.unknown-entry type
 said (code.RunOutOfBounds run start count options) = paper.run-out-of-bounds run start count options
 said (code.IndexTooLarge len) = paper.index-too-large len
@@ -86,7 +90,7 @@ count-refusal (count.Refused r) = r
 
 -- as many values as a refusal has at most
 abbrev pub places : ℕ
-places = 4
+places = 5
 
 -- the first n values, and 0 in the places that are left
 abbrev pub padded : ℕ → List ℕ → List ℕ
@@ -96,4 +100,19 @@ padded (suc n) (v ∷ vs) = v ∷ padded n vs
 
 -- a refusal in its places: its number, how many values, and the values
 abbrev pub laid : paper.Refusal → Numbers
-laid r = record { number = r .number; count = length (r .values); values = padded places (r .values) }
+laid r = record { number = r .number; count = length (paper.gives r); values = padded places (paper.gives r) }
+
+-- ---- a place counted from further to the front, as far as a `usize` goes
+
+abbrev pub most : ℕ
+most = 0xffffffffffffffff
+
+abbrev pub capped : ℕ → ℕ
+capped p = cond (ltb most p) most p
+
+abbrev pub place-capped : Place → Place
+place-capped untold = untold
+place-capped (told p) = told (capped p)
+
+abbrev pub moved-capped : ℕ → paper.Refusal → paper.Refusal
+moved-capped n r = record { number = r .number; values = r .values; place = place-capped (paper.moved-place n (r .place)) }

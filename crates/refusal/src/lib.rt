@@ -1,12 +1,15 @@
 // Everything that is refused, once for all layers, whose answers hold it; the rules' number and values for it; and the two answers that
 // all layers share. Offsets and lengths are `usize`, numbers off the wire have their width there.
 mod answers; // answers.rt: a verdict, and a count
+mod places; // places.rt: a refusal's place, counted from further to the front
 mod values; // values.rt: the number and the values of a refusal
 
 pub use answers::Count;
 pub use answers::Verdict;
+pub use places::moved;
 pub use values::Numbers;
 pub use values::PLACES;
+pub use values::five;
 pub use values::four;
 pub use values::none;
 pub use values::numbers_of;
@@ -45,7 +48,8 @@ pub enum StringError {
     },
 }
 
-// In the order of the rules' table.
+// In the order of the rules' table. `place` is the byte at which an option was refused: of an option that is read alone counted from its own first
+// byte, among others from the first byte of the options, and of a string that is read alone from the string's.
 pub enum Refusal {
     UnexpectedEndOfSlice(usize),
     EntriesLengthTooLarge(u32),
@@ -60,10 +64,19 @@ pub enum Refusal {
         needed: usize,
         had: usize,
         source: LengthSource,
+        place: usize,
     },
-    OptionLengthZero,
-    ConfigurationString(StringError),
-    UnknownOption(u8),
+    OptionLengthZero {
+        place: usize,
+    },
+    ConfigurationString {
+        error: StringError,
+        place: usize,
+    },
+    UnknownOption {
+        code: u8,
+        place: usize,
+    },
     UnknownEntry(u8),
     RunOutOfBounds {
         run: u8,

@@ -8,7 +8,7 @@ ghost use Rattle.numbers.specs.Refusals.{refusal};
 ghost use Rattle.refusal.specs.Said.{said, string-said, source-number, laid};
 
 // As many values as a refusal has at most.
-pub const PLACES: usize = 4;
+pub const PLACES: usize = 5;
 
 // The number; its values stand in the first `count` places, and the others hold 0.
 pub struct Numbers {
@@ -17,7 +17,7 @@ pub struct Numbers {
     pub values: [u64; PLACES],
 }
 
-// A number with no value, and with one to four: what those who have a number to tell make of it.
+// A number with no value, and with one to five: what those who have a number to tell make of it.
 pub fn none(number: u64) -> Numbers
     ensures { λ r. ⌜ r ≡ laid (refusal number []) ⌝ }
 {
@@ -82,6 +82,22 @@ pub fn four(number: u64, a: u64, b: u64, c: u64, d: u64) -> Numbers
     }
 }
 
+pub fn five(number: u64, a: u64, b: u64, c: u64, d: u64, e: u64) -> Numbers
+    ensures { λ r. ⌜ r ≡ laid (refusal number (a ∷ b ∷ c ∷ d ∷ e ∷ [])) ⌝ }
+{
+    let mut values = [0; PLACES];
+    values[0] = a;
+    values[1] = b;
+    values[2] = c;
+    values[3] = d;
+    values[4] = e;
+    Numbers {
+        number,
+        count: 5,
+        values,
+    }
+}
+
 // The number of a length's source: 0 for the slice, 1 for the option's length.
 fn number_of_source(source: LengthSource) -> u64
     ensures { λ r. ⌜ r ≡ source-number source ⌝ }
@@ -92,35 +108,49 @@ fn number_of_source(source: LengthSource) -> u64
     }
 }
 
-// The number and the values of a string's error: 9, which of the six it is, and its numbers.
-fn numbers_of_string(error: StringError) -> Numbers
-    ensures { λ r. ⌜ r ≡ laid (string-said error) ⌝ }
+// The number and the values of a string's error: 9, which of the six it is, its numbers, and the place.
+fn numbers_of_string(error: StringError, place: u64) -> Numbers
+    ensures { λ r. ⌜ r ≡ laid (string-said error place) ⌝ }
 {
     match error {
-        StringError::MissingTerminator => one(9, 1),
+        StringError::MissingTerminator => two(9, 1, place),
         StringError::ItemLengthExceedsRemaining {
             item_offset,
             item_length,
             remaining,
-        } => four(
+        } => five(
             9,
             2,
             item_offset as u64,
             item_length as u64,
             remaining as u64,
+            place,
         ),
-        StringError::TrailingDataAfterTerminator { terminator_offset } => two(
+        StringError::TrailingDataAfterTerminator { terminator_offset } => three(
             9,
             3,
             terminator_offset as u64,
+            place,
         ),
-        StringError::EmptyKey { item_offset } => two(9, 4, item_offset as u64),
+        StringError::EmptyKey { item_offset } => three(9, 4, item_offset as u64, place),
         StringError::InvalidKeyByte {
             item_offset,
             byte_offset,
             value,
-        } => four(9, 5, item_offset as u64, byte_offset as u64, value as u64),
-        StringError::KeyContainsOnlyWhitespace { item_offset } => two(9, 6, item_offset as u64),
+        } => five(
+            9,
+            5,
+            item_offset as u64,
+            byte_offset as u64,
+            value as u64,
+            place,
+        ),
+        StringError::KeyContainsOnlyWhitespace { item_offset } => three(
+            9,
+            6,
+            item_offset as u64,
+            place,
+        ),
     }
 }
 
@@ -143,10 +173,17 @@ pub fn numbers_of(refusal: Refusal) -> Numbers
             needed,
             had,
             source,
-        } => three(7, needed as u64, had as u64, number_of_source(source)),
-        Refusal::OptionLengthZero => none(8),
-        Refusal::ConfigurationString(error) => numbers_of_string(error),
-        Refusal::UnknownOption(code) => one(10, code as u64),
+            place,
+        } => four(
+            7,
+            needed as u64,
+            had as u64,
+            number_of_source(source),
+            place as u64,
+        ),
+        Refusal::OptionLengthZero { place } => one(8, place as u64),
+        Refusal::ConfigurationString { error, place } => numbers_of_string(error, place as u64),
+        Refusal::UnknownOption { code, place } => two(10, code as u64, place as u64),
         Refusal::UnknownEntry(code) => one(11, code as u64),
         Refusal::RunOutOfBounds {
             run,

@@ -81,12 +81,13 @@ alike-exactly r number vs = (there (eqb (r .number) number) refl, (λ e. rw (eq-
     there false e h = absurd (false≢true h)
 
 -- a record's answer, from what its calls gave
-pub answer-made : (r : List ℕ) {answer : Numbers} {n a b c d count : ℕ}
-    → answer ≡ laid (refusal n (a ∷ b ∷ c ∷ d ∷ [])) → n ≡ getD r 2 0 → a ≡ value-of r 0 → b ≡ value-of r 1 → c ≡ value-of r 2 → d ≡ value-of r 3 → count ≡ values r
+pub answer-made : (r : List ℕ) {answer : Numbers} {n a b c d e count : ℕ}
+    → answer ≡ laid (refusal n (a ∷ b ∷ c ∷ d ∷ e ∷ [])) → n ≡ getD r 2 0 → a ≡ value-of r 0 → b ≡ value-of r 1 → c ≡ value-of r 2 → d ≡ value-of r 3 → e ≡ value-of r 4
+    → count ≡ values r
     → record { number = answer .number; count = count; values = answer .values } ≡ answer-of r
-answer-made r made en ea eb ec ed ek =
+answer-made r made en ea eb ec ed ee ek =
     λ i. record {
       number = (ap (λ (x : Numbers). x .number) made ∙ en) i;
       count = ek i;
-      values = (ap (λ (x : Numbers). x .values) made ∙ (λ j. padded places (ea j ∷ eb j ∷ ec j ∷ ed j ∷ []))) i;
+      values = (ap (λ (x : Numbers). x .values) made ∙ (λ j. padded places (ea j ∷ eb j ∷ ec j ∷ ed j ∷ ee j ∷ []))) i;
     }

@@ -31,12 +31,12 @@ value-of r n = cond (ltb n (values r)) (word-of r (arguments r + n)) 0
 abbrev pub check-of : List ℕ → ℕ → ℕ
 check-of r n = word-of r (arguments r + values r + n)
 
--- the answer: a record has at most four values
+-- the answer: a record has at most five values
 abbrev pub answer-of : List ℕ → Numbers
 answer-of r = record {
   number = getD r 2 0;
   count = values r;
-  values = padded places (value-of r 0 ∷ value-of r 1 ∷ value-of r 2 ∷ value-of r 3 ∷ []);
+  values = padded places (value-of r 0 ∷ value-of r 1 ∷ value-of r 2 ∷ value-of r 3 ∷ value-of r 4 ∷ []);
 }
 
 abbrev pub input-of : List ℕ → List ℕ

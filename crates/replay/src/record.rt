@@ -7,7 +7,7 @@ ghost use Rattle.replay.specs.Records.{word-of, value-of, check-of, answ
 use big_endian::be32;
 use refusal::Numbers;
 use refusal::PLACES;
-use refusal::four;
+use refusal::five;
 
 // The byte at a place.
 pub fn byte(s: &[u8], place: usize) -> u8
@@ -64,12 +64,13 @@ pub fn check(s: &[u8], place: u8) -> u32
 pub fn recorded(s: &[u8]) -> Numbers
     ensures { λ r. ⌜ r ≡ answer-of (now (s .entry)) ⌝ }
 {
-    let answer = four(
+    let answer = five(
         byte(s, 2) as u64,
         value(s, 0),
         value(s, 1),
         value(s, 2),
         value(s, 3),
+        value(s, 4),
     );
     let values = answer.values;
     Numbers {

@@ -9,6 +9,7 @@ use refusal::numbers_of;
 mod cases; // cases.rt: the bytes of the cases
 mod parts; // parts.rt: what is told of an entry and of an option
 mod payload; // payload.rt: what is told of a payload
+mod places; // places.rt: where an option is refused
 
 // A configuration string.
 fn string(name: &[u8], s: &[u8]) {
@@ -88,4 +89,5 @@ fn main() {
     whole();
     unknown();
     strings();
+    places::all();
 }

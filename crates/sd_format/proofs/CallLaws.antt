@@ -7,15 +7,15 @@ use native.Mathlib.Omega.{arith}
 use lib.ListN.{length, take, drop, getD, length-map, take-append-drop}
 use lib.Seq.{drop-at}
 use borrow.Author.Tests.{ltb-false, eqb-true, eqb-false, lt-ltb, le-ltb, ne-eqb}
-use Rattle.numbers.specs.Answers.{Answer, accepted, refused, pass, _>>=_, _>>_, refuse_when_else_, each, given, All}
+use Rattle.numbers.specs.Answers.{Answer, accepted, refused, pass, _>>=_, _>>_, refuse_when_else_, given, All}
 use Rattle.numbers.specs.Bytes.{Bytes, be16, be32, at16, at32}
 use Rattle.numbers.proofs.AnswerLaws.{when-hit, when-pass, when-accepted, given-accepted, then-accepted, then-pass, test-accepted, refuse-pass}
 use Rattle.numbers.proofs.ByteLaws.{bytes-drop, be16-at, be32-at, take-tab}
 use Rattle.sd_format.specs.Settings.{Settings}
 use Rattle.sd_format.specs.Options.{Opt}
 use Rattle.sd_format.specs.Kinds.{Kind, configuration, load-balancing, address, unknown, kind-of}
-use Rattle.sd_format.specs.Sequences.{counted}
-use Rattle.sd_format.specs.Frames.{Frame, permitted, permit, all-options, read-options, slots, lent, table-after, read-index, look-up}
+use Rattle.sd_format.specs.Sequences.{each-from, counted}
+use Rattle.sd_format.specs.Frames.{Frame, size, permitted, permit, all-options, read-options, slots, lent, table-after, read-index, look-up}
 use Rattle.sd_format.specs.Fields.{fields}
 use Rattle.sd_format.specs.Layout.{OptionFits, lay-options, wire, lay, Header, lay-header}
 use Rattle.sd_format.specs.Payload.{options-part, read-payload, frames-of, shown, handed-out, header, read-message}
@@ -84,7 +84,7 @@ pub index-reads : (s : List ℕ) → read-options any-unknown s ≡ all-options 
 unfolding read-options _>>=_
 index-reads s = go (all-options s) refl
   where
-    go : (a : Answer (List Frame)) → all-options s ≡ a → (a >>= λ fs. each (permit any-unknown) fs >> accepted fs) ≡ a
+    go : (a : Answer (List Frame)) → all-options s ≡ a → (a >>= λ fs. each-from size (permit any-unknown) 0 fs >> accepted fs) ≡ a
     go (accepted fs) e = then-pass _ _ (permits-all any-unknown fs .1 (all-always fs))
     go (refused r) e = refl
 

@@ -10,16 +10,14 @@ use Rattle.numbers.specs.Bytes.{Bytes}
 use Rattle.numbers.proofs.AnswerLaws.{accepted-inj, given-accepted}
 use Rattle.sd_format.specs.Settings.{Settings}
 use Rattle.sd_format.specs.Sequences.{HandsOut, behind, counted}
-use Rattle.sd_format.specs.Kinds.{scanned}
-use Rattle.sd_format.specs.Frames.{Frame, size, read-option, all-options, slots, table-after, look-up, next-option}
+use Rattle.sd_format.specs.Frames.{Frame, size, read-option, placed-option, all-options, slots, table-after, look-up, next-option}
 use Rattle.sd_format.specs.Fields.{fields}
 use Rattle.sd_format.specs.Entries.{sixteen, read-entry, placed-entry, read-entries, next-entry}
 use Rattle.sd_format.specs.Layout.{Payload, wire}
 use Rattle.sd_format.specs.Payload.{entries-part, options-part, Reading, read-payload, frames-of, shown, handed-out}
 use Rattle.sd_format.specs.Demand3.{LaidOut, table-left, Demand3, CursorsAgree}
 use Rattle.sd_format.proofs.SequenceLaws.{counted-map, cursor-hands}
-use Rattle.sd_format.proofs.FrameLaws.{option-within}
-use Rattle.sd_format.proofs.OptionLaws.{read-parts, options-read, looked-up, run-hands}
+use Rattle.sd_format.proofs.OptionLaws.{placed-plain, placed-within, read-parts, options-read, looked-up, run-hands}
 use Rattle.sd_format.proofs.EntryLaws.{entry-plain, entry-long}
 use Rattle.sd_format.proofs.PayloadLaws.{lay-handed, ReadSays, read-says, read-lay, options-part-length, bytes-options}
 
@@ -66,7 +64,7 @@ module _ (g : Settings) (s : List ℕ) (b : Bytes s) where
 
     options-handed : HandsOut (next-option (options-part s)) (behind size) 0 (r .frames)
     unfolding all-options
-    options-handed = cursor-hands read-option size 4 (omega arith) (option-within scanned) read-option (λ t f h. h) (options-part s) 0 (r .frames) all-read
+    options-handed = cursor-hands (placed-option _) size 4 (omega arith) (placed-within _) read-option (λ t f h. placed-plain _ t f .0 h) (options-part s) 0 (r .frames) all-read
 
     cursors-of : CursorsAgree g s (shown r)
     unfolding shown

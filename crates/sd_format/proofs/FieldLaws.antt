@@ -11,7 +11,7 @@ use lib.ListN.{length, take, drop, getD, length-append, length-drop, take-append
 use lib.Seq.{take-at, take-all, length-take-le, getD-append-add, getD-drop, drop-drop}
 use lib.Dec.{eqb}
 use borrow.Author.Tests.{eqb-true, eq-eqb}
-use Rattle.numbers.specs.Answers.{Answer, accepted, refused, pass, _>>_, refuse_when_else_, given, verdict}
+use Rattle.numbers.specs.Answers.{Answer, accepted, refused, pass, _>>_, refuse_when_else_, further, given, verdict}
 use Rattle.numbers.specs.Bytes.{Bytes, be16, at16}
 use Rattle.numbers.proofs.AnswerLaws.{not-refused, then-accepted, then-pass, refuse-pass}
 use Rattle.numbers.proofs.TestLaws.{or-cases}
@@ -41,14 +41,14 @@ exact-length n body =
     let t = refuse-pass _ (eqb (length body) n) in
     ((λ e. eqb-true _ _ (t .0 e)), (λ h. t .1 (eq-eqb _ _ h)))
 
-passes : (a : Answer (List (List ℕ))) → verdict a ≡ pass → (items : List (List ℕ)) × (a ≡ accepted items)
-unfolding given
-passes (accepted items) e = (items, refl)
-passes (refused r) e = not-refused r tt e
+passes : (n : ℕ) (a : Answer (List (List ℕ))) → further n (verdict a) ≡ pass → (items : List (List ℕ)) × (a ≡ accepted items)
+unfolding given further
+passes n (accepted items) e = (items, refl)
+passes n (refused r) e = not-refused _ tt e
 
-passing : (a : Answer (List (List ℕ))) (items : List (List ℕ)) → a ≡ accepted items → verdict a ≡ pass
-unfolding given
-passing a items e = rw e
+passing : (n : ℕ) (a : Answer (List (List ℕ))) (items : List (List ℕ)) → a ≡ accepted items → further n (verdict a) ≡ pass
+unfolding given further
+passing n a items e = rw e
 
 -- ---- from the fields to the bytes
 
@@ -126,7 +126,7 @@ pub wired : (g : Settings) (o : Opt) → OptionFits g o → Wired g o
 unfolding lay-option lay-frame be16 fields-of permitted judge-length judge-text items-of _>>_ refuse_when_else_
 wired g (configuring b items) h =
     let read : read-string (lay-items items) ≡ accepted items = strings-exact (lay-items items) .handed items .1 (h .1, refl) in
-    wired-by g (configuring b items) _ row-configuration (omega arith) (passing _ items read)
+    wired-by g (configuring b items) _ row-configuration (omega arith) (passing _ _ items read)
     (same-length _ _ (1 ∷ lay-first b ∷ lay-items items) (sym (one-add (length (lay-items items)))))
     (ap₂ {C = Opt} (λ c is. configuring c is) (first-back b (h .0)) (ap items-of read))
     refl
@@ -180,7 +180,7 @@ module _ (g : Settings) (body : List ℕ) (b : Bytes body) (some : 1 ≤ length 
   back-configuration : scanned (string body) ≡ pass → Back g 0x01 body (fields-of configuration 0x01 body)
   unfolding lay-option be16 fields-of items-of
   back-configuration j =
-      let (items, e) = passes _ j in
+      let (items, e) = passes _ _ j in
       let is : items-of (read-string (string body)) ≡ items = ap items-of e in
       let (good, lay) = strings-exact (string body) .handed items .0 e in
       let whole : lay-first (first body) ∷ lay-items (items-of (read-string (string body))) ≡ body = rw (is, lay) (whole-body body b some) in

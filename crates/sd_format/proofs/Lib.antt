@@ -14,6 +14,8 @@ pub mod CallLaws
 pub mod Order
 pub mod Bounds
 pub mod Places
+pub mod PlacesTold
 pub mod StringRules
 pub mod RuleLaws
+pub mod FaultLaws
 pub mod Theorems

@@ -2,36 +2,50 @@
 use mathlib.Core.Path.{_≡_, refl, sym, ap, _∙_, subst}
 use mathlib.Core.Bool.{Bool, true, false}
 use mathlib.Core.Logic.{_↔_}
-use mathlib.Core.List.{List, [], _∷_, map}
+use mathlib.Core.List.{List, [], _∷_, _++_, map}
 use Prim.Native.Nat.{ℕ, zero, suc, _+_, _*_, _-_, _≤_, _<_}
 use native.Mathlib.Omega.{arith}
 use lib.ListN.{length, take, drop, getD, drop-of-length-le}
 use lib.Dec.{leb}
 use borrow.Author.Tests.{lt-leb, leb-true, leb-false, ne-eqb}
-use Rattle.numbers.specs.Answers.{accepted, pass, each, All}
+use Rattle.numbers.specs.Answers.{accepted, pass, All}
 use Rattle.numbers.specs.Bytes.{Bytes, be16}
-use Rattle.numbers.proofs.AnswerLaws.{when-hit, when-pass, accepted-inj, bind-accepted, bind-pass, then-accepted, then-pass, refuse-pass, each-pass}
+use Rattle.numbers.proofs.AnswerLaws.{when-hit, when-pass, accepted-inj, bind-accepted, bind-pass, then-accepted, then-pass, refuse-pass, further-accepted}
 use Rattle.numbers.proofs.ByteLaws.{bytes-left, bytes-right}
 use Rattle.sd_format.specs.Settings.{Settings}
-use Rattle.sd_format.specs.Sequences.{starts, counted, HandsOut, ended, gave}
+use Rattle.sd_format.specs.Sequences.{starts, each-from, counted, HandsOut, ended, gave}
 use Rattle.sd_format.specs.Options.{Opt}
 use Rattle.sd_format.specs.Kinds.{Kind, configuration, load-balancing, address, unknown, kind-of, judge-text, judge-kind, scanned, unscanned}
-use Rattle.sd_format.specs.Frames.{Frame, size, one-option, read-option, permitted, permit, all-options, read-options, slots, table-after, misfit, look-up, next-of-run, along}
+use Rattle.sd_format.specs.Frames.{Frame, size, one-option, read-option, placed-option, permitted, permit, all-options, read-options, slots, table-after, misfit, look-up, next-of-run, along}
 use Rattle.sd_format.specs.Fields.{fields}
 use Rattle.sd_format.specs.Layout.{lay-all, lay-options, wire, OptionFits}
-use Rattle.sd_format.proofs.SequenceLaws.{all-exact, all-laid-read, all-count, counted-past, counted-in, counted-drop, read-start}
+use Rattle.sd_format.proofs.SequenceLaws.{all-exact, all-laid-read, all-count, each-from-pass, counted-past, counted-in, counted-drop, read-start}
 use Rattle.sd_format.proofs.TableLaws.{Few, after-long, slot, offset-slot}
 use Rattle.sd_format.proofs.FrameLaws.{lay-frame, length-frame, Sound, option-lay, option-says, option-within}
 use Rattle.sd_format.proofs.FieldLaws.{wired, shown}
 
 -- ---- all options, as type and bytes
 
+-- an option among others is accepted as it is alone
+pub placed-plain : (n : ℕ) (t : List ℕ) (f : Frame) → (placed-option n t ≡ accepted f) ↔ (read-option t ≡ accepted f)
+unfolding placed-option
+placed-plain n t f = further-accepted _ (read-option t) f
+
+pub placed-lay : (n : ℕ) (f : Frame) (rest : List ℕ) → Sound scanned f → placed-option n (lay-frame f ++ rest) ≡ accepted f
+placed-lay n f rest w = placed-plain n _ f .1 (option-lay scanned f rest w)
+
+pub placed-back : (n : ℕ) (t : List ℕ) (f : Frame) → Bytes t → placed-option n t ≡ accepted f → Sound scanned f × (lay-frame f ++ drop (size f) t ≡ t)
+placed-back n t f bytes e = let w = option-says scanned t f (placed-plain n t f .0 e) in (w .0, w .1 .again bytes)
+
+pub placed-within : (n : ℕ) (t : List ℕ) (f : Frame) → placed-option n t ≡ accepted f → (4 ≤ size f) × (size f ≤ length t)
+placed-within n t f e = option-within scanned t f (placed-plain n t f .0 e)
+
 pub all-frames : (s : List ℕ) → Bytes s → (fs : List Frame) → (all-options s ≡ accepted fs) ↔ (All (Sound scanned) fs × (lay-all lay-frame fs ≡ s))
 unfolding all-options
 all-frames s b fs =
-    all-exact read-option size lay-frame (Sound scanned)
-    (option-lay scanned)
-    (λ t f bytes e. let w = option-says scanned t f e in (w .0, w .1 .again bytes))
+    all-exact (placed-option (length s)) size lay-frame (Sound scanned)
+    (placed-lay (length s))
+    (placed-back (length s))
     (λ f w. length-frame f)
     (λ f w. omega arith)
     s b fs
@@ -39,8 +53,7 @@ all-frames s b fs =
 frames-lay : (fs : List Frame) → All (Sound scanned) fs → all-options (lay-all lay-frame fs) ≡ accepted fs
 unfolding all-options
 frames-lay fs w =
-    all-laid-read read-option size lay-frame (Sound scanned) (option-lay scanned)
-    (λ t f bytes e. let v = option-says scanned t f e in (v .0, v .1 .again bytes))
+    all-laid-read (placed-option _) size lay-frame (Sound scanned) (placed-lay _) (placed-back _)
     (λ f v. length-frame f)
     (λ f v. omega arith)
     fs w
@@ -55,14 +68,17 @@ bodies (f ∷ fs) b =
 -- an option has four bytes or more
 pub few-options : (s : List ℕ) (fs : List Frame) → all-options s ≡ accepted fs → 4 * length fs ≤ length s
 unfolding all-options
-few-options s fs e = all-count read-option size 4 (omega arith) (option-within scanned) s fs e
+few-options s fs e = all-count (placed-option _) size 4 (omega arith) (placed-within _) s fs e
 
 abbrev pub Permitted : Settings → Frame → Type 0
 Permitted g f = permitted g (kind-of (f .type)) (f .body) ≡ true
 
-pub permits-all : (g : Settings) (fs : List Frame) → (each (permit g) fs ≡ pass) ↔ All (Permitted g) fs
+pub permit-passes : (g : Settings) (f : Frame) → (permit g f ≡ pass) ↔ Permitted g f
 unfolding permit
-permits-all g fs = each-pass (permit g) (Permitted g) (λ f. refuse-pass _ _) fs
+permit-passes g f = refuse-pass _ _
+
+pub permits-all : (g : Settings) (fs : List Frame) → (each-from size (permit g) 0 fs ≡ pass) ↔ All (Permitted g) fs
+permits-all g fs = each-from-pass size (permit g) (Permitted g) (permit-passes g) 0 fs
 
 -- the options read, in two steps
 pub read-parts : (g : Settings) (s : List ℕ) (fs : List Frame) → (read-options g s ≡ accepted fs) ↔ ((all-options s ≡ accepted fs) × All (Permitted g) fs)
@@ -168,7 +184,7 @@ module _ (s : List ℕ) (fs : List Frame) (e : all-options s ≡ accepted fs) (s
           let h : k < length fs = leb-false _ _ p in
           let (f, c) = counted-in fs k h in
           let read : one-option unscanned (drop (getD T k 0) s) ≡ accepted f =
-          rw (offset k h) (unscanned-option _ f (read-start read-option size 4 (omega arith) (option-within scanned) s 0 fs k f e c)) in
+          rw (offset k h) (unscanned-option _ f (placed-plain _ _ f .0 (read-start (placed-option _) size 4 (omega arith) (placed-within _) s 0 fs k f e c))) in
           here k h ∙ rw (read, c)
 
   -- ---- the run cursor hands out the counted options of its run

@@ -1,11 +1,11 @@
 -- The order of refusals holds of the definitions, by computation. Assumes nothing.
 use mathlib.Core.Path.{refl}
-use Rattle.numbers.specs.Answers.{_>>=_, _>>_, refuse_when_else_, each, given}
+use Rattle.numbers.specs.Answers.{_>>=_, _>>_, refuse_when_else_, further, given}
 use Rattle.numbers.specs.Bytes.{be16, be32, at16, at24, at32}
-use Rattle.sd_format.specs.Sequences.{all-from, next-at}
+use Rattle.sd_format.specs.Sequences.{all-from, each-from, next-at}
 use Rattle.sd_format.specs.Strings.{key-of, judge-bytes, all-spaces, judge-key, judge-item, closed, items-from, read-string}
 use Rattle.sd_format.specs.Kinds.{kinds, row-in, row-of, judge-length, judge-text, judge-kind}
-use Rattle.sd_format.specs.Frames.{frame, one-option, permitted, permit, all-options, read-options, slots, lent, read-index, look-up, next-of-run}
+use Rattle.sd_format.specs.Frames.{frame, one-option, placed-option, permitted, permit, all-options, read-options, slots, lent, read-index, look-up, next-of-run}
 use Rattle.sd_format.specs.Entries.{head, group, by-type, read-entry, inside, judge-run, judge-runs, placed-entry, read-entries}
 use Rattle.sd_format.specs.Payload.{sizes, entries-length, options-length, entries-part, options-part, read-payload, header, read-message}
 use Rattle.sd_format.specs.Order.{SizesInOrder, MessageInOrder, OptionInOrder, StringInOrder, OptionsInOrder, EntriesInOrder, IndexInOrder, LookupInOrder, Order}
@@ -53,7 +53,7 @@ string-in-order = record {
 }
 
 option-in-order : OptionInOrder
-unfolding _>>=_ _>>_ refuse_when_else_ given at16 closed items-from read-string kinds row-in row-of judge-length judge-text judge-kind frame one-option
+unfolding _>>=_ _>>_ refuse_when_else_ further given at16 closed items-from read-string kinds row-in row-of judge-length judge-text judge-kind frame one-option
 option-in-order = record {
   7-before-8 = refl;
   7-before-whole-length = refl;
@@ -66,11 +66,11 @@ option-in-order = record {
 }
 
 options-in-order : OptionsInOrder
-unfolding _>>=_ _>>_ refuse_when_else_ each given at16 all-from closed items-from read-string kinds row-in row-of judge-length judge-text judge-kind frame one-option permitted permit all-options read-options
+unfolding _>>=_ _>>_ refuse_when_else_ further given at16 all-from each-from closed items-from read-string kinds row-in row-of judge-length judge-text judge-kind frame one-option placed-option permitted permit all-options read-options
 options-in-order = record { first-option = refl; 8-before-10 = refl; 9-before-10 = refl; first-unknown = refl }
 
 entries-in-order : EntriesInOrder
-unfolding _>>=_ _>>_ refuse_when_else_ each given be16 be32 at16 at24 at32 all-from kinds row-in row-of judge-length judge-text judge-kind frame one-option permitted permit all-options read-options head group by-type read-entry inside judge-run judge-runs placed-entry read-entries sizes entries-length options-length entries-part options-part read-payload
+unfolding _>>=_ _>>_ refuse_when_else_ further given be16 be32 at16 at24 at32 all-from each-from kinds row-in row-of judge-length judge-text judge-kind frame one-option placed-option permitted permit all-options read-options head group by-type read-entry inside judge-run judge-runs placed-entry read-entries sizes entries-length options-length entries-part options-part read-payload
 entries-in-order = record {
   8-before-11 = refl;
   10-before-11 = refl;

@@ -8,29 +8,29 @@ use native.Mathlib.Omega.{arith}
 use lib.ListN.{length, take, drop, getD, length-drop}
 use lib.Seq.{length-take-le}
 use borrow.Author.Tests.{eqb-false, ne-eqb, not-true}
-use Rattle.numbers.specs.Refusals.{Refusal, refusal}
-use Rattle.numbers.specs.Answers.{Answer, accepted, refused, Verdict, pass, _>>_, each}
+use Rattle.numbers.specs.Refusals.{Refusal, refusal, _at-byte_, moved}
+use Rattle.numbers.specs.Answers.{Answer, accepted, refused, Verdict, pass, _>>_, further, verdict}
 use Rattle.numbers.specs.Bytes.{at16, at32}
-use Rattle.numbers.specs.Rules.{Rules, accept, _if_else_, part_else_, _then_, Accepts, Follows, FirstRefused}
-use Rattle.numbers.proofs.AnswerLaws.{not-refused, accepted-inj, when-accepted}
+use Rattle.numbers.specs.Rules.{Rules, accept, _if_else_, part_else_, _then_, Accepts, Follows}
+use Rattle.numbers.proofs.AnswerLaws.{not-refused, accepted-inj, when-accepted, further-refused}
 use Rattle.numbers.proofs.TestLaws.{below, at-most, equal, unequal, lacks}
-use Rattle.numbers.proofs.RuleLaws.{follows-accepted, follows-refused, follows-passed, follows-if, follows-bind, follows-then, follows-part, given-refuses, each-refused}
+use Rattle.numbers.proofs.RuleLaws.{follows-accepted, follows-refused, follows-passed, follows-if, follows-bind, follows-then, follows-part, given-refuses}
 use Rattle.sd_format.specs.Settings.{Settings}
 use Rattle.sd_format.specs.Options.{Family, ipv4, ipv6, Role, endpoint, multicast, sd-endpoint, has}
 use Rattle.sd_format.specs.Strings.{read-string}
-use Rattle.sd_format.specs.Sequences.{next-at, Stops}
+use Rattle.sd_format.specs.Sequences.{next-at, each-from, Stops, FirstRefused}
 use Rattle.sd_format.specs.Kinds.{Row, Length, exactly, one-or-more, kinds, row-in, row-of, kind-of, judge-length, judge-text, judge-kind, scanned, unscanned}
-use Rattle.sd_format.specs.Frames.{Frame, size, frame, one-option, read-option, permitted, permit, all-options, read-options, slots, lent, read-index, misfit, look-up, Run, next-of-run}
+use Rattle.sd_format.specs.Frames.{Frame, size, frame, one-option, read-option, placed-option, permitted, permit, all-options, read-options, slots, lent, read-index, misfit, look-up, Run, next-of-run}
 use Rattle.sd_format.specs.Entries.{Entry, head-of, head, by-type, sixteen, read-entry, judge-run, judge-runs, placed-entry, read-entries}
 use Rattle.sd_format.specs.Layout.{lay-type, lay-length, Unknown, RunFits}
 use Rattle.sd_format.specs.Payload.{sizes, entries-length, options-length, entries-part, options-part, read-payload, header, read-message}
 use Rattle.sd_format.specs.Rules.{Fixed, load-balancing, ipv4-endpoint, ipv4-multicast, ipv4-sd-endpoint, ipv6-endpoint, ipv6-multicast, ipv6-sd-endpoint, OtherLength, option-rules, Scanned, Unscanned, permit-rules, options-rules, index-rules, EntryType, entry-rules, placed-rules, size-rules, payload-rules, header-rules, message-rules, lent-rules, look-up-rules, cursor-rules, run-rules}
 use Rattle.sd_format.specs.Theorems.{RulesFollowed}
-use Rattle.sd_format.proofs.SequenceLaws.{all-stops}
+use Rattle.sd_format.proofs.SequenceLaws.{all-stops, each-refused}
 use Rattle.sd_format.proofs.KindLaws.{row-configuration, row-load-balancing, row-address, row-unknown, type-cases}
 use Rattle.sd_format.proofs.StringRules.{string-refused}
-use Rattle.sd_format.proofs.FrameLaws.{frame-is, option-within}
-use Rattle.sd_format.proofs.OptionLaws.{read-parts}
+use Rattle.sd_format.proofs.FrameLaws.{frame-is}
+use Rattle.sd_format.proofs.OptionLaws.{placed-within, read-parts}
 use Rattle.sd_format.proofs.EntryLaws.{run-inside, entry-cases, entry-long}
 
 -- ---- one option
@@ -54,7 +54,7 @@ fixed-address ipv6 endpoint = ipv6-endpoint
 fixed-address ipv6 multicast = ipv6-multicast
 fixed-address ipv6 sd-endpoint = ipv6-sd-endpoint
 
-exact-follows : (n had : ℕ) → Follows (judge-length (exactly n) had) (refusal 7 (n ∷ had ∷ 1 ∷ []) if had ≢ n else accept)
+exact-follows : (n had : ℕ) → Follows (judge-length (exactly n) had) (refusal 7 (n ∷ had ∷ 1 ∷ []) at-byte 0 if had ≢ n else accept)
 unfolding judge-length
 exact-follows n had = follows-if _ _ (unequal had n) (follows-accepted tt)
 
@@ -119,9 +119,9 @@ module _ (text : List ℕ → Verdict) (Text : List ℕ → Refusal → Type 0) 
 
 abbrev frame-rules : List ℕ → Rules
 frame-rules s =
-    refusal 7 (3 ∷ length s ∷ 0 ∷ []) if length s < 3 else
-    refusal 8 [] if at16 s 0 ≡ 0 else
-    refusal 7 ((3 + at16 s 0) ∷ length s ∷ 0 ∷ []) if length s < 3 + at16 s 0 else
+    refusal 7 (3 ∷ length s ∷ 0 ∷ []) at-byte 0 if length s < 3 else
+    refusal 8 [] at-byte 0 if at16 s 0 ≡ 0 else
+    refusal 7 ((3 + at16 s 0) ∷ length s ∷ 0 ∷ []) at-byte 0 if length s < 3 + at16 s 0 else
     accept
 
 frame-follows : (s : List ℕ) → Follows (frame s) (frame-rules s)
@@ -142,10 +142,16 @@ module _ (text : List ℕ → Verdict) (Text : List ℕ → Refusal → Type 0) 
       let full : length (take (at16 s 0) (drop 3 s)) ≡ at16 s 0 = length-take-le (at16 s 0) (drop 3 s) (rw length-drop (omega arith)) in
       rw (← same) (rw full at (kind-follows text Text says (record { type = getD s 2 0; body = take (at16 s 0) (drop 3 s) }))))
 
+-- a string is refused in its option as it is alone, its place counted from the option
+scanned-refused : (t : List ℕ) (r : Refusal) → (scanned t ≡ refused r) ↔ Scanned t r
+unfolding further
+scanned-refused t r = (
+  (λ e. let (q, refuses, there) = further-refused 4 _ r e in (q, string-refused t q .0 (given-refuses _ (read-string t) q .0 refuses), there)),
+  (λ (q, stops, there). let refuses : verdict (read-string t) ≡ refused q = given-refuses _ (read-string t) q .1 (string-refused t q .1 stops) in rw refuses (ap refused there)),
+)
+
 pub read-option-follows : (s : List ℕ) → Follows (read-option s) (option-rules Scanned s)
-read-option-follows s =
-    option-follows scanned Scanned
-    (λ t r. let w = given-refuses _ (read-string t) r in let v = string-refused t r in ((λ e. v .0 (w .0 e)), (λ h. w .1 (v .1 h)))) s
+read-option-follows s = option-follows scanned Scanned scanned-refused s
 
 pub unscanned-follows : (s : List ℕ) → Follows (one-option unscanned s) (option-rules Unscanned s)
 unscanned-follows s = option-follows unscanned Unscanned (λ t r. ((λ e. not-refused r tt (sym e)), (λ n. absurd n))) s
@@ -188,21 +194,21 @@ pub permit-follows : (g : Settings) (f : Frame) → Follows (permit g f) (permit
 unfolding permit
 permit-follows g f = follows-if _ _ (unpermitted g (f .type) (f .body)) (follows-accepted tt)
 
-stops-at : (s : List ℕ) (r : Refusal) → (all-options s ≡ refused r) ↔ Stops read-option size s r
+pub stops-at : (s : List ℕ) (r : Refusal) → (all-options s ≡ refused r) ↔ Stops (placed-option (length s)) size s r
 unfolding all-options
-stops-at s r = all-stops read-option size 4 (omega arith) (option-within scanned) s r
+stops-at s r = all-stops (placed-option (length s)) size 4 (omega arith) (placed-within (length s)) s r
 
 pub options-follow : (g : Settings) (s : List ℕ) → Follows (read-options g s) (options-rules g s)
 unfolding read-options
 options-follow g s =
-    follows-bind (all-options s) _ (part (Stops read-option size s) else accept)
-    (part (λ r. (fs : List Frame) × (all-options s ≡ accepted fs) × FirstRefused (permit g) fs r) else accept)
+    follows-bind (all-options s) _ (part (Stops (placed-option (length s)) size s) else accept)
+    (part (λ r. (fs : List Frame) × (all-options s ≡ accepted fs) × FirstRefused size (permit g) 0 fs r) else accept)
     (follows-part _ _ (stops-at s))
     (λ fs e.
-    follows-then (each (permit g) fs) (accepted fs) (part (λ r. (fs : List Frame) × (all-options s ≡ accepted fs) × FirstRefused (permit g) fs r) else accept) accept
+    follows-then (each-from size (permit g) 0 fs) (accepted fs) (part (λ r. (fs : List Frame) × (all-options s ≡ accepted fs) × FirstRefused size (permit g) 0 fs r) else accept) accept
     (follows-part _ _ (λ r. (
-      (λ h. (fs, e, each-refused (permit g) fs r .0 h)),
-      (λ w. each-refused (permit g) fs r .1 (subst (λ (l : List Frame). FirstRefused (permit g) l r) (accepted-inj (w .0) fs (sym (w .1) ∙ e)) (w .2))),
+      (λ h. (fs, e, each-refused size (permit g) 0 fs r .0 h)),
+      (λ w. each-refused size (permit g) 0 fs r .1 (subst (λ (l : List Frame). FirstRefused size (permit g) 0 l r) (accepted-inj (w .0) fs (sym (w .1) ∙ e)) (w .2))),
     )))
     (follows-accepted fs))
 
@@ -264,7 +270,7 @@ placed-follows n s =
 
 -- ---- the payload and the message
 
-sizes-follow : (n entries options : ℕ) → Follows (sizes n entries options) (size-rules n entries options)
+pub sizes-follow : (n entries options : ℕ) → Follows (sizes n entries options) (size-rules n entries options)
 unfolding sizes
 sizes-follow n entries options =
     follows-if _ _ (below n 12)
@@ -277,7 +283,7 @@ sizes-follow n entries options =
     (follows-if _ _ (unequal n (12 + entries + options))
     (follows-accepted tt))))))))
 
-header-follows : (s : List ℕ) → Follows (header s) (header-rules s)
+pub header-follows : (s : List ℕ) → Follows (header s) (header-rules s)
 unfolding header
 header-follows s =
     follows-if _ _ (below (length s) 16)
@@ -289,7 +295,7 @@ header-follows s =
     (follows-if _ _ (unequal (getD s 15 0) 0)
     (follows-accepted tt)))))))
 
-entries-stop : (n : ℕ) (s : List ℕ) (r : Refusal) → (read-entries n s ≡ refused r) ↔ Stops (placed-entry n) sixteen s r
+pub entries-stop : (n : ℕ) (s : List ℕ) (r : Refusal) → (read-entries n s ≡ refused r) ↔ Stops (placed-entry n) sixteen s r
 unfolding read-entries
 entries-stop n s r = all-stops (placed-entry n) sixteen 16 (omega arith) (λ t e h. (omega arith, entry-long n t e h)) s r
 

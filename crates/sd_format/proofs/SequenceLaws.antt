@@ -1,20 +1,21 @@
 -- Parts that are read from the front, one after the other: the laws that a loop uses, that what is read is what is laid out, where each part
 -- starts, and what a cursor hands out. Once for options and entries. Assumes nothing.
 use mathlib.Core.Path.{_≡_, refl, sym, ap, _∙_, subst}
-use mathlib.Core.Logic.{_↔_}
-use mathlib.Core.List.{List, [], _∷_, _++_, map}
+use mathlib.Core.Logic.{_↔_, ⊎-elim}
+use mathlib.Core.List.{List, [], _∷_, _++_, append-assoc, map}
 use Prim.Native.Nat.{ℕ, zero, suc, _+_, _*_, _-_, _≤_, _<_, zero-le}
 use native.Mathlib.Nat.{le-of-suc-le-suc, mul-suc, mul-zero}
 use native.Mathlib.Numerals.{add-one}
 use native.Mathlib.Omega.{arith}
-use lib.ListN.{length, drop, getD, length-append, length-drop}
-use lib.Seq.{drop-at, drop-drop}
+use lib.ListN.{length, take, drop, getD, length-append, length-drop}
+use lib.Seq.{take-at, take-add, drop-at, drop-drop}
 use borrow.Author.Tests.{le-leb, lt-leb}
-use Rattle.numbers.specs.Refusals.{Refusal, nothing-there}
-use Rattle.numbers.specs.Answers.{Answer, accepted, refused, _>>=_, given, All}
+use Rattle.numbers.specs.Refusals.{Refusal, moved, nothing-there}
+use Rattle.numbers.specs.Answers.{Answer, accepted, refused, Verdict, pass, _>>=_, _>>_, further, given, All}
 use Rattle.numbers.specs.Bytes.{Bytes}
-use Rattle.numbers.proofs.AnswerLaws.{when-hit, when-pass, not-refused, accepted-inj, refused-inj, bind-accepted, bind-pass, bind-refused}
-use Rattle.sd_format.specs.Sequences.{all-from, all, next-at, behind, starts, counted, HandsOut, ended, gave, Stops, this-part, later-part}
+use Rattle.numbers.proofs.ByteLaws.{bytes-drop}
+use Rattle.numbers.proofs.AnswerLaws.{when-hit, when-pass, not-refused, accepted-inj, refused-inj, bind-accepted, bind-pass, bind-refused, then-accepted, then-pass, then-refused, further-accepted, further-refused}
+use Rattle.sd_format.specs.Sequences.{all-from, all, next-at, behind, starts, total, each-from, counted, HandsOut, ended, gave, Stops, this-part, later-part, FirstRefused}
 use Rattle.sd_format.specs.Layout.{lay-all}
 
 drop-past : (n b : ℕ) (s : List ℕ) → 1 ≤ n → drop n (b ∷ s) ≡ drop (n - 1) s
@@ -149,6 +150,100 @@ module _ {A : Type 0} (read : List ℕ → Answer A) (size : A → ℕ) (lay : A
 
   pub all-exact : (s : List ℕ) → Bytes s → (xs : List A) → (all read size s ≡ accepted xs) ↔ (All Fits xs × (lay-all lay xs ≡ s))
   all-exact s b xs = (all-lay s 0 xs b, (λ h. rw (← (h .1)) (all-laid-read xs (h .0))))
+
+  -- ---- where the reading of all stops: the parts in front are laid out, and the reading of one behind them is refused
+
+  abbrev StoppedAt : List ℕ → Refusal → Type 0
+  StoppedAt t r = (xs : List A) × (p : ℕ) × Laid xs (take p t) × (p < length t) × (read (drop p t) ≡ refused r)
+
+  stopped-later : (t : List ℕ) (a : A) (r : Refusal) → Fits a × (lay a ++ drop (size a) t ≡ t) → StoppedAt (drop (size a) t) r → StoppedAt t r
+  unfolding lay-all
+  stopped-later t a r w (xs, p, l, more, e) =
+      let front : take (size a) t ≡ lay a = ap (take (size a)) (sym (w .1)) ∙ take-at (lay a) (drop (size a) t) (size a) (sized a (w .0)) in
+      let left : p < length t - size a = rw length-drop at more in
+      (a ∷ xs, size a + p, ((w .0, l .0), rw (l .1, take-add (size a) p t, front)), omega arith, rw (← (drop-drop p (size a) t)) e)
+
+  pub stopped-at : {t : List ℕ} {r : Refusal} → Bytes t → Stops read size t r → StoppedAt t r
+  unfolding lay-all
+  stopped-at b (this-part {s} {r} some e) = ([], 0, (tt, refl), some, e)
+  stopped-at b (later-part {s} {a} {r} some e later) = stopped-later s a r (back s a b e) (stopped-at (bytes-drop s (size a) b) later)
+
+  -- and back
+  pub all-refuses : (xs : List A) (t : List ℕ) (r : Refusal) → All Fits xs → 1 ≤ length t → read t ≡ refused r → all read size (lay-all lay xs ++ t) ≡ refused r
+  unfolding lay-all _>>=_
+  all-refuses [] t r w more e = all-stop read size t r more e
+  all-refuses (a ∷ xs) t r w more e =
+      let long : 1 ≤ length (lay a ++ (lay-all lay xs ++ t)) = simp length-append (omega (arith, sized a (w .0), some a (w .0))) in
+      ap (all read size) (append-assoc (lay a) (lay-all lay xs) t)
+      ∙ all-more read size _ a long (some a (w .0)) (laid a (lay-all lay xs ++ t) (w .0))
+      ∙ rw (drop-at (lay a) (lay-all lay xs ++ t) (size a) (sized a (w .0)), all-refuses xs t r (w .1) more e)
+
+-- ---- a test of each
+
+-- the tests pass exactly when each passes
+module _ {A : Type 0} (size : A → ℕ) (test : A → Verdict) (P : A → Type 0) (fits : (a : A) → (test a ≡ pass) ↔ P a) where
+  pub each-from-pass : (at : ℕ) (xs : List A) → (each-from size test at xs ≡ pass) ↔ All P xs
+  unfolding each-from
+  each-from-pass at [] = ((λ e. tt), (λ h. refl))
+  each-from-pass at (a ∷ xs) =
+      let later = each-from-pass (at + size a) xs in
+      let here = further-accepted at (test a) tt in (
+        (λ e. let w = then-accepted _ _ _ e in (fits a .0 (here .0 (w .0)), later .0 (w .1))),
+        (λ h. then-pass _ _ (here .1 (fits a .1 (h .0))) ∙ later .1 (h .1)),
+      )
+
+-- which one is refused, and where it starts
+module _ {A : Type 0} (size : A → ℕ) (test : A → Verdict) where
+  first-refused : (at : ℕ) (xs : List A) (r : Refusal) → each-from size test at xs ≡ refused r → FirstRefused size test at xs r
+  unfolding each-from total
+  first-refused at [] r e = not-refused r tt (sym e)
+  first-refused at (a ∷ xs) r e =
+      ⊎-elim
+      (λ stop.
+      let (q, refuses, there) = further-refused at (test a) r stop in
+      let none : at + 0 ≡ at = omega arith in
+      record { before = []; one = a; behind = xs; alone = q; among = refl; passed = tt; refused-there = refuses; place = rw none there })
+      (λ (pass-here, later).
+      let w = first-refused (at + size a) xs r later in
+      let far : at + (size a + total size (w .before)) ≡ at + size a + total size (w .before) = omega arith in
+      record {
+        before = a ∷ w .before;
+        one = w .one;
+        behind = w .behind;
+        alone = w .alone;
+        among = ap (λ (l : List A). a ∷ l) (w .among);
+        passed = (further-accepted at (test a) tt .0 pass-here, w .passed);
+        refused-there = w .refused-there;
+        place = rw far (w .place);
+      })
+      (then-refused _ _ r e)
+
+  refused-first : (at : ℕ) (before : List A) (a : A) (behind : List A) (q : Refusal) → All (λ x. test x ≡ pass) before → test a ≡ refused q
+      → each-from size test at (before ++ (a ∷ behind)) ≡ refused (moved (at + total size before) q)
+  unfolding each-from total further _>>_
+  refused-first at [] a behind q w e = let none : at + 0 ≡ at = omega arith in rw (e, none)
+  refused-first at (x ∷ before) a behind q w e =
+      let far : at + size x + total size before ≡ at + (size x + total size before) = omega arith in
+      then-pass _ _ (further-accepted at (test x) tt .1 (w .0)) ∙ refused-first (at + size x) before a behind q (w .1) e
+      ∙ ap (λ (n : ℕ). refused (moved n q)) far
+
+  pub each-refused : (at : ℕ) (xs : List A) (r : Refusal) → (each-from size test at xs ≡ refused r) ↔ FirstRefused size test at xs r
+  each-refused at xs r = (
+    first-refused at xs r,
+    (λ w. rw (w .among) (refused-first at (w .before) (w .one) (w .behind) (w .alone) (w .passed) (w .refused-there) ∙ ap refused (w .place))),
+  )
+
+-- ---- layouts, one after the other
+
+pub lay-append : {A : Type 0} (lay : A → List ℕ) (xs ys : List A) → lay-all lay (xs ++ ys) ≡ lay-all lay xs ++ lay-all lay ys
+unfolding lay-all
+lay-append lay [] ys = refl
+lay-append lay (x ∷ xs) ys = rw (lay-append lay xs ys) (sym (append-assoc (lay x) (lay-all lay xs) (lay-all lay ys)))
+
+pub lay-length : {A : Type 0} (lay : A → List ℕ) (size : A → ℕ) → ((a : A) → length (lay a) ≡ size a) → (xs : List A) → length (lay-all lay xs) ≡ total size xs
+unfolding lay-all total
+lay-length lay size sized [] = refl
+lay-length lay size sized (x ∷ xs) = length-append (lay x) (lay-all lay xs) ∙ rw (sized x, lay-length lay size sized xs) refl
 
 -- ---- counting
 

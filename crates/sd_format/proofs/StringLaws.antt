@@ -25,9 +25,9 @@ use Rattle.sd_format.specs.Demand3.{StringsExact}
 -- what is passed over is what is dropped
 pub passed : (at k : ℕ) (l : List ℕ) → items-from at k l ≡ items-from (at + k) 0 (drop k l)
 unfolding items-from
-passed at zero [] = refl
+passed at zero [] = rw (add-zero at, add-zero at) refl
 passed at zero (b ∷ l) = rw add-zero refl
-passed at (suc k) [] = refl
+passed at (suc k) [] = rw add-zero refl
 passed at (suc k) (b ∷ l) = passed (at + 1) k l ∙ ap (λ (n : ℕ). items-from n 0 (drop k l)) (omega arith)
 
 pub at-terminator : (at : ℕ) (rest : List ℕ) → items-from at 0 (0 ∷ rest) ≡ closed at rest
@@ -61,9 +61,9 @@ pub left-whole : (s : List ℕ) → read-string s ≡ items-left s 0
 unfolding read-string items-left
 left-whole s = refl
 
-pub left-end : (s : List ℕ) (at : ℕ) → length s ≤ at → items-left s at ≡ refused missing-terminator
+pub left-end : (s : List ℕ) (at : ℕ) → length s ≤ at → items-left s at ≡ refused (missing-terminator at)
 unfolding items-left items-from
-left-end s at h = rw (drop-of-length-le s h) refl
+left-end s at h = rw (drop-of-length-le s h, add-zero) refl
 
 -- a change of what was accepted leaves the verdict
 verdict-kept : {A B : Type 0} (m : Answer A) (f : A → B) → verdict (m >>= λ a. accepted (f a)) ≡ verdict m
@@ -269,7 +269,7 @@ item-laid n rest later fits good laid = (
 -- what is left of an accepted string after the bytes that were passed
 read-laid : (at k : ℕ) (l : List ℕ) (items : List (List ℕ)) → items-from at k l ≡ accepted items → ItemsLaid items (drop k l)
 unfolding items-from
-read-laid at k [] items e = not-refused missing-terminator items e
+read-laid at k [] items e = not-refused (missing-terminator (at + k)) items e
 read-laid at (suc k) (b ∷ l) items e = read-laid (at + 1) k l items e
 read-laid at zero (zero ∷ rest) items e = closed-laid at rest items e
 read-laid at zero (suc m ∷ rest) items e =

@@ -9,7 +9,7 @@ use native.Mathlib.Omega.{arith}
 use lib.ListN.{length, take, drop}
 use lib.Dec.{leb, eqb}
 use borrow.Author.Tests.{leb-false, lt-leb, le-leb, eqb-true, eq-eqb, leb-true}
-use Rattle.numbers.specs.Refusals.{Refusal, refusal, invalid-key-byte}
+use Rattle.numbers.specs.Refusals.{Refusal, missing-terminator, trailing-data, invalid-key-byte}
 use Rattle.numbers.specs.Answers.{accepted, refused, Verdict, _>>=_, _>>_, refuse_when_else_, All}
 use Rattle.numbers.specs.Rules.{accept, part_else_, Follows}
 use Rattle.numbers.proofs.AnswerLaws.{not-refused, refused-inj, then-pass, bind-refused}
@@ -29,7 +29,7 @@ record BadFrom (item i : ℕ) (key : List ℕ) (r : Refusal) : Type 0 where
   among : key ≡ before ++ (byte ∷ behind)
   good : All InRange before
   bad : (byte < 0x20) ⊎ (0x7e < byte)
-  says : (n : ℕ) → n ≡ i + length before → refusal 9 (5 ∷ item ∷ n ∷ byte ∷ []) ≡ r
+  says : (n : ℕ) → n ≡ i + length before → invalid-key-byte item n byte ≡ r
 
 outside : (b : ℕ) → (leb 0x20 b && leb b 0x7e) ≡ false → (b < 0x20) ⊎ (0x7e < b)
 outside b e = go (leb 0x20 b) refl e
@@ -69,13 +69,13 @@ bytes-bad item i (b ∷ key) r e = go (leb 0x20 b && leb b 0x7e) refl e (bytes-b
           among = refl;
           good = tt;
           bad = outside b h;
-          says = λ n m. ap (λ (k : ℕ). refusal 9 (5 ∷ item ∷ k ∷ b ∷ [])) (m ∙ add-zero i) ∙ refused-inj _ r e;
+          says = λ n m. ap (λ (k : ℕ). invalid-key-byte item k b) (m ∙ add-zero i) ∙ refused-inj _ r e;
         }
 
 bad-bytes : (item i : ℕ) (before : List ℕ) (byte : ℕ) (behind : List ℕ) → All InRange before → (byte < 0x20) ⊎ (0x7e < byte)
-    → (n : ℕ) → n ≡ i + length before → judge-bytes item i (before ++ (byte ∷ behind)) ≡ refused (refusal 9 (5 ∷ item ∷ n ∷ byte ∷ []))
+    → (n : ℕ) → n ≡ i + length before → judge-bytes item i (before ++ (byte ∷ behind)) ≡ refused (invalid-key-byte item n byte)
 unfolding judge-bytes refuse_when_else_
-bad-bytes item i [] byte behind good bad n m = rw (bad-test byte bad) (ap (λ (k : ℕ). refused (refusal 9 (5 ∷ item ∷ k ∷ byte ∷ []))) (sym (m ∙ add-zero i)))
+bad-bytes item i [] byte behind good bad n m = rw (bad-test byte bad) (ap (λ (k : ℕ). refused (invalid-key-byte item k byte)) (sym (m ∙ add-zero i)))
 bad-bytes item i (b ∷ before) byte behind good bad n m =
     rw (le-leb 0x20 b (good .0 .0), le-leb b 0x7e (good .0 .1)) (bad-bytes item (i + 1) before byte behind (good .1) bad n (omega arith))
 
@@ -106,12 +106,12 @@ item-follows item n rest = follows-if _ _ (below (length rest) n) (key-follows i
 
 string-stops : (at skip : ℕ) (l : List ℕ) (r : Refusal) → items-from at skip l ≡ refused r → (place : ℕ) → place ≡ at + skip → StringRefused place (drop skip l) r
 unfolding items-from _>>_
-string-stops at zero [] r e place m = subst (StringRefused place []) (refused-inj _ r e) unterminated
-string-stops at (suc k) [] r e place m = subst (StringRefused place []) (refused-inj _ r e) unterminated
+string-stops at zero [] r e place m = subst (StringRefused place []) (ap missing-terminator m ∙ refused-inj _ r e) unterminated
+string-stops at (suc k) [] r e place m = subst (StringRefused place []) (ap missing-terminator m ∙ refused-inj _ r e) unterminated
 string-stops at (suc k) (b ∷ l) r e place m = string-stops (at + 1) k l r e place (omega arith)
 string-stops at zero (zero ∷ []) r e place m = not-refused r [] (sym e ∙ closed-last at [] refl)
 string-stops at zero (zero ∷ b ∷ rest) r e place m =
-    subst (StringRefused place (0 ∷ b ∷ rest)) (ap (λ (k : ℕ). refusal 9 (3 ∷ k ∷ [])) (m ∙ add-zero at) ∙ refused-inj _ r (sym (closed-trailing at (b ∷ rest) (λ none. absurd (omega arith))) ∙ e))
+    subst (StringRefused place (0 ∷ b ∷ rest)) (ap trailing-data (m ∙ add-zero at) ∙ refused-inj _ r (sym (closed-trailing at (b ∷ rest) (λ none. absurd (omega arith))) ∙ e))
     (trailing (λ none. let z : _≡_ {A = ℕ} 0 1 = cc in absurd (omega arith)))
 string-stops at zero (suc n ∷ rest) r e place m =
     subst (λ (p : ℕ). StringRefused p (suc n ∷ rest) r) (sym (m ∙ add-zero at)) (go (judge-item at (suc n) rest) refl (sym (at-item at (suc n) rest some) ∙ e) (string-stops (at + 1) (suc n) rest r))
@@ -128,7 +128,7 @@ string-stops at zero (suc n ∷ rest) r e place m =
 
 refused-string : {at : ℕ} {s : List ℕ} {r : Refusal} → StringRefused at s r → items-from at 0 s ≡ refused r
 unfolding items-from _>>=_ _>>_
-refused-string unterminated = refl
+refused-string (unterminated {at}) = ap (λ (p : ℕ). refused (missing-terminator p)) (add-zero at)
 refused-string (trailing {at} {rest} some) = closed-trailing at rest (λ none. some (no-length rest none))
 refused-string (this-item {at} {n} {rest} {r} some w) = at-item at n rest some ∙ rw (item-follows at n rest .refuses r .1 w)
 refused-string (later-item {at} {n} {rest} {r} some w later) =

@@ -5,6 +5,8 @@ use Rattle.sd_format.proofs.Demand3.{demand3, cursors}
 use Rattle.sd_format.proofs.CallLaws.{lent-exactly, index-exact, message-exact, tables-left}
 use Rattle.sd_format.proofs.RuleLaws.{rules-followed}
 use Rattle.sd_format.proofs.Order.{order}
+use Rattle.sd_format.proofs.FaultLaws.{place-is-the-place}
+use Rattle.sd_format.proofs.PlacesTold.{places-told}
 use Rattle.sd_format.proofs.Cases.{cases}
 use Rattle.sd_format.proofs.Places.{places}
 use Rattle.sd_format.proofs.Bounds.{bounds}
@@ -19,6 +21,8 @@ theorems = record {
   lent-exactly = lent-exactly;
   rules-followed = rules-followed;
   order = order;
+  place-is-the-place = place-is-the-place;
+  places-told = places-told;
   tables-left = tables-left;
   cases = cases;
   places = places;

@@ -68,11 +68,11 @@ pub record Bounds : Type 0 where
   -- the known kinds are permitted without the discardable bit
   pub known-permitted : given length (read-options strict (configured ++ (balanced ++ addressed))) ≡ accepted 3
   -- strings
-  pub trailing : read-string (0x00 ∷ 0x00 ∷ []) gives 9 with (3 ∷ 0 ∷ [])
-  pub spaces : read-string (0x01 ∷ 0x20 ∷ 0x00 ∷ []) gives 9 with (6 ∷ 0 ∷ [])
-  pub bad-byte : read-string (0x02 ∷ 0x41 ∷ 0xff ∷ 0x00 ∷ []) gives 9 with (5 ∷ 0 ∷ 1 ∷ 255 ∷ [])
-  pub long-item : read-string (0x05 ∷ 0x41 ∷ 0x00 ∷ []) gives 9 with (2 ∷ 0 ∷ 5 ∷ 2 ∷ [])
-  pub unterminated : read-string (0x01 ∷ 0x41 ∷ []) gives 9 with (1 ∷ [])
+  pub trailing : read-string (0x00 ∷ 0x00 ∷ []) gives 9 with (3 ∷ 0 ∷ 0 ∷ [])
+  pub spaces : read-string (0x01 ∷ 0x20 ∷ 0x00 ∷ []) gives 9 with (6 ∷ 0 ∷ 0 ∷ [])
+  pub bad-byte : read-string (0x02 ∷ 0x41 ∷ 0xff ∷ 0x00 ∷ []) gives 9 with (5 ∷ 0 ∷ 1 ∷ 255 ∷ 0 ∷ [])
+  pub long-item : read-string (0x05 ∷ 0x41 ∷ 0x00 ∷ []) gives 9 with (2 ∷ 0 ∷ 5 ∷ 2 ∷ 0 ∷ [])
+  pub unterminated : read-string (0x01 ∷ 0x41 ∷ []) gives 9 with (1 ∷ 2 ∷ [])
   -- lookup: the last slot and one past it; the last of the table and one past it; no option at the offset, and an offset past the bytes
   pub slot-346 : given (λ f. f .type) (look-up (kept 0x77) (replicate 348 0) 348 346) ≡ accepted 0x77
   pub slot-347 : look-up (kept 0x77) (replicate 348 0) 348 347 gives 21 with []

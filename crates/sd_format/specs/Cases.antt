@@ -4,7 +4,7 @@ use mathlib.Core.Path.{_≡_}
 use mathlib.Core.Bool.{Bool, true, false}
 use mathlib.Core.List.{List, [], _∷_, _++_, map}
 use lib.ListN.{replicate}
-use Rattle.numbers.specs.Refusals.{refusal}
+use Rattle.numbers.specs.Refusals.{refusal, _at-byte_}
 use Rattle.numbers.specs.Answers.{Answer, accepted, refused, given, All}
 use Rattle.sd_format.specs.Settings.{Settings}
 use Rattle.sd_format.specs.Options.{ipv4, endpoint, Opt, addressed, unrecognised}
@@ -59,11 +59,11 @@ table =
     ∷ payload (whole 0) (accepted (payload-of true (the-offer ∷ []) (the-endpoint ∷ [])))
     ∷ payload (whole 1) (refused (refusal 12 (1 ∷ 1 ∷ 1 ∷ 1 ∷ [])))
     ∷ options false (0x00 ∷ 0x01 ∷ 0x77 ∷ 0x80 ∷ []) (accepted (unrecognised 0x77 (record { discardable = true; others = 0 }) [] ∷ []))
-    ∷ options false (0x00 ∷ 0x01 ∷ 0x77 ∷ 0x00 ∷ []) (refused (refusal 10 (0x77 ∷ [])))
+    ∷ options false (0x00 ∷ 0x01 ∷ 0x77 ∷ 0x00 ∷ []) (refused (refusal 10 (0x77 ∷ []) at-byte 3))
     ∷ options true (0x00 ∷ 0x01 ∷ 0x77 ∷ 0x00 ∷ []) (accepted (unrecognised 0x77 (record { discardable = false; others = 0 }) [] ∷ []))
-    ∷ string [] (refused (refusal 9 (1 ∷ [])))
+    ∷ string [] (refused (refusal 9 (1 ∷ []) at-byte 0))
     ∷ string (0x00 ∷ []) (accepted [])
-    ∷ string (0x01 ∷ 0x3d ∷ 0x00 ∷ []) (refused (refusal 9 (4 ∷ 0 ∷ [])))
+    ∷ string (0x01 ∷ 0x3d ∷ 0x00 ∷ []) (refused (refusal 9 (4 ∷ 0 ∷ []) at-byte 0))
     ∷ string (0x03 ∷ 0x41 ∷ 0x3d ∷ 0xff ∷ 0x00 ∷ []) (accepted ((0x41 ∷ 0x3d ∷ 0xff ∷ []) ∷ []))
     ∷ []
 

@@ -6,10 +6,10 @@ use mathlib.Core.List.{List, _++_}
 use lib.ListN.{length, take, drop, getD, replicate}
 use lib.Dec.{ltb, leb, eqb}
 use Rattle.numbers.specs.Refusals.{option-length, option-length-zero, unknown-option, index-too-large, nothing-there, table-misfit, few-slots}
-use Rattle.numbers.specs.Answers.{Answer, accepted, refused, Verdict, pass, _>>=_, _>>_, refuse_when_else_, each}
+use Rattle.numbers.specs.Answers.{Answer, accepted, refused, Verdict, pass, _>>=_, _>>_, refuse_when_else_, further}
 use Rattle.numbers.specs.Bytes.{at16}
 use Rattle.sd_format.specs.Settings.{Settings}
-use Rattle.sd_format.specs.Sequences.{all, next-at, starts}
+use Rattle.sd_format.specs.Sequences.{all, next-at, starts, each-from}
 use Rattle.sd_format.specs.Options.{discardable-bit, has}
 use Rattle.sd_format.specs.Kinds.{Kind, configuration, load-balancing, address, unknown, kind-of, judge-kind, scanned, unscanned}
 
@@ -41,6 +41,10 @@ read-option = one-option scanned
 
 -- ---- all options
 
+-- one option in front of the last bytes `s` of a part of `n` bytes: a refusal's place is counted from the part's start
+unfoldable pub placed-option : ℕ → List ℕ → Answer Frame
+placed-option n s = further (n - length s) (read-option s)
+
 -- an unknown option needs the discardable bit, unless the discard setting is on (as the Rust: one that may not stand refuses the whole payload;
 -- DIFFERENCES, R3)
 unfoldable pub permitted : Settings → Kind → List ℕ → Bool
@@ -53,11 +57,11 @@ unfoldable pub permit : Settings → Frame → Verdict
 permit g f = refuse unknown-option (f .type) when not (permitted g (kind-of (f .type)) (f .body)) else pass
 
 unfoldable pub all-options : List ℕ → Answer (List Frame)
-all-options s = all read-option size s
+all-options s = all (placed-option (length s)) size s
 
 -- after all options decode, 10 for the first bad unknown
 unfoldable pub read-options : Settings → List ℕ → Answer (List Frame)
-read-options g s = all-options s >>= λ fs. each (permit g) fs >> accepted fs
+read-options g s = all-options s >>= λ fs. each-from size (permit g) 0 fs >> accepted fs
 
 -- ---- the lent table
 

@@ -6,7 +6,7 @@ use mathlib.Core.List.{List, [], _∷_}
 use lib.ListN.{length, drop}
 use lib.Dec.{eqb}
 use Rattle.numbers.specs.Refusals.{option-length}
-use Rattle.numbers.specs.Answers.{Verdict, pass, _>>_, refuse_when_else_, verdict}
+use Rattle.numbers.specs.Answers.{Verdict, pass, _>>_, refuse_when_else_, further, verdict}
 use Rattle.sd_format.specs.Options.{Family, ipv4, ipv6, Role, endpoint, multicast, sd-endpoint}
 use Rattle.sd_format.specs.Strings.{read-string}
 
@@ -70,9 +70,12 @@ judge-text text unknown body = pass
 unfoldable pub judge-kind : (List ℕ → Verdict) → ℕ → List ℕ → Verdict
 judge-kind text type body = judge-length (row-of type .len) (length body) >> judge-text text (kind-of type) body
 
--- what the reading says of a string, and what lookup says, which scans none
+-- what is said of a string alone; of one in its option, whose fifth byte is the string's first; and by lookup, which scans none
+abbrev pub string-alone : List ℕ → Verdict
+string-alone s = verdict (read-string s)
+
 abbrev pub scanned : List ℕ → Verdict
-scanned s = verdict (read-string s)
+scanned s = further 4 (string-alone s)
 
 abbrev pub unscanned : List ℕ → Verdict
 unscanned s = pass

@@ -10,8 +10,10 @@ pub mod Layout
 pub mod Payload
 pub mod Rules
 pub mod Demand3
+pub mod Faults
 pub mod Cases
 pub mod Order
 pub mod Bounds
 pub mod Places
+pub mod PlacesTold
 pub mod Theorems

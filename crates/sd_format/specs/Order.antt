@@ -72,32 +72,32 @@ pub record MessageInOrder : Type 0 where
 -- and 9. The whole length comes before either of them.
 
 pub record OptionInOrder : Type 0 where
-  pub 7-before-8 : read-option (0x00 ∷ 0x00 ∷ []) gives 7 with (3 ∷ 2 ∷ 0 ∷ [])
-  pub 7-before-whole-length : read-option (0x00 ∷ 0x01 ∷ []) gives 7 with (3 ∷ 2 ∷ 0 ∷ [])
-  pub 8-before-source-1 : read-option (0x00 ∷ 0x00 ∷ 0x02 ∷ []) gives 8 with []
-  pub 8-before-9 : read-option (0x00 ∷ 0x00 ∷ 0x01 ∷ []) gives 8 with []
-  pub whole-length-before-source-1 : read-option (0x00 ∷ 0x01 ∷ 0x02 ∷ []) gives 7 with (4 ∷ 3 ∷ 0 ∷ [])
-  pub whole-length-before-9 : read-option (0x00 ∷ 0x01 ∷ 0x01 ∷ []) gives 7 with (4 ∷ 3 ∷ 0 ∷ [])
+  pub 7-before-8 : read-option (0x00 ∷ 0x00 ∷ []) gives 7 with (3 ∷ 2 ∷ 0 ∷ 0 ∷ [])
+  pub 7-before-whole-length : read-option (0x00 ∷ 0x01 ∷ []) gives 7 with (3 ∷ 2 ∷ 0 ∷ 0 ∷ [])
+  pub 8-before-source-1 : read-option (0x00 ∷ 0x00 ∷ 0x02 ∷ []) gives 8 with (0 ∷ [])
+  pub 8-before-9 : read-option (0x00 ∷ 0x00 ∷ 0x01 ∷ []) gives 8 with (0 ∷ [])
+  pub whole-length-before-source-1 : read-option (0x00 ∷ 0x01 ∷ 0x02 ∷ []) gives 7 with (4 ∷ 3 ∷ 0 ∷ 0 ∷ [])
+  pub whole-length-before-9 : read-option (0x00 ∷ 0x01 ∷ 0x01 ∷ []) gives 7 with (4 ∷ 3 ∷ 0 ∷ 0 ∷ [])
   -- each of the two alone
-  pub source-1 : read-option (0x00 ∷ 0x01 ∷ 0x02 ∷ 0x00 ∷ []) gives 7 with (5 ∷ 1 ∷ 1 ∷ [])
-  pub 9-alone : read-option (0x00 ∷ 0x01 ∷ 0x01 ∷ 0x00 ∷ []) gives 9 with (1 ∷ [])
+  pub source-1 : read-option (0x00 ∷ 0x01 ∷ 0x02 ∷ 0x00 ∷ []) gives 7 with (5 ∷ 1 ∷ 1 ∷ 0 ∷ [])
+  pub 9-alone : read-option (0x00 ∷ 0x01 ∷ 0x01 ∷ 0x00 ∷ []) gives 9 with (1 ∷ 4 ∷ [])
 
 -- ---- one item of a configuration string: length (2), empty key (4), first bad key byte (5), all spaces (6); and its end: 1, 3
 -- An empty key has no bad byte, and one of spaces has none; but an empty key has nothing but spaces.
 
 pub record StringInOrder : Type 0 where
-  pub 2-before-4 : read-string (0x02 ∷ 0x3d ∷ []) gives 9 with (2 ∷ 0 ∷ 2 ∷ 1 ∷ [])
-  pub 2-before-5 : read-string (0x02 ∷ 0xff ∷ []) gives 9 with (2 ∷ 0 ∷ 2 ∷ 1 ∷ [])
-  pub 2-before-6 : read-string (0x02 ∷ 0x20 ∷ []) gives 9 with (2 ∷ 0 ∷ 2 ∷ 1 ∷ [])
-  pub 4-before-6 : read-string (0x01 ∷ 0x3d ∷ 0x00 ∷ []) gives 9 with (4 ∷ 0 ∷ [])
+  pub 2-before-4 : read-string (0x02 ∷ 0x3d ∷ []) gives 9 with (2 ∷ 0 ∷ 2 ∷ 1 ∷ 0 ∷ [])
+  pub 2-before-5 : read-string (0x02 ∷ 0xff ∷ []) gives 9 with (2 ∷ 0 ∷ 2 ∷ 1 ∷ 0 ∷ [])
+  pub 2-before-6 : read-string (0x02 ∷ 0x20 ∷ []) gives 9 with (2 ∷ 0 ∷ 2 ∷ 1 ∷ 0 ∷ [])
+  pub 4-before-6 : read-string (0x01 ∷ 0x3d ∷ 0x00 ∷ []) gives 9 with (4 ∷ 0 ∷ 0 ∷ [])
   -- the first of two bad bytes
-  pub first-bad-byte : read-string (0x02 ∷ 0x1f ∷ 0x7f ∷ 0x00 ∷ []) gives 9 with (5 ∷ 0 ∷ 0 ∷ 0x1f ∷ [])
+  pub first-bad-byte : read-string (0x02 ∷ 0x1f ∷ 0x7f ∷ 0x00 ∷ []) gives 9 with (5 ∷ 0 ∷ 0 ∷ 0x1f ∷ 0 ∷ [])
   -- the first of two bad items, and a bad item before the string's end is looked at
-  pub first-item : read-string (0x01 ∷ 0x3d ∷ 0x01 ∷ 0x20 ∷ 0x00 ∷ []) gives 9 with (4 ∷ 0 ∷ [])
-  pub item-before-1 : read-string (0x01 ∷ 0x3d ∷ []) gives 9 with (4 ∷ 0 ∷ [])
-  pub item-before-3 : read-string (0x01 ∷ 0x3d ∷ 0x00 ∷ 0x00 ∷ []) gives 9 with (4 ∷ 0 ∷ [])
+  pub first-item : read-string (0x01 ∷ 0x3d ∷ 0x01 ∷ 0x20 ∷ 0x00 ∷ []) gives 9 with (4 ∷ 0 ∷ 0 ∷ [])
+  pub item-before-1 : read-string (0x01 ∷ 0x3d ∷ []) gives 9 with (4 ∷ 0 ∷ 0 ∷ [])
+  pub item-before-3 : read-string (0x01 ∷ 0x3d ∷ 0x00 ∷ 0x00 ∷ []) gives 9 with (4 ∷ 0 ∷ 0 ∷ [])
   -- what stands behind the terminator is not looked at
-  pub 3-before-item : read-string (0x00 ∷ 0x01 ∷ 0x3d ∷ []) gives 9 with (3 ∷ 0 ∷ [])
+  pub 3-before-item : read-string (0x00 ∷ 0x01 ∷ 0x3d ∷ []) gives 9 with (3 ∷ 0 ∷ 0 ∷ [])
 
 -- ---- all options, each before the next, and then 10
 
@@ -112,10 +112,10 @@ abbrev pub no-terminator : List ℕ
 no-terminator = 0x00 ∷ 0x01 ∷ 0x01 ∷ 0x00 ∷ []
 
 pub record OptionsInOrder : Type 0 where
-  pub first-option : read-options strict (no-terminator ++ no-length) gives 9 with (1 ∷ [])
-  pub 8-before-10 : read-options strict (kept 0x77 ++ no-length) gives 8 with []
-  pub 9-before-10 : read-options strict (kept 0x77 ++ no-terminator) gives 9 with (1 ∷ [])
-  pub first-unknown : read-options strict (kept 0x77 ++ kept 0x78) gives 10 with (0x77 ∷ [])
+  pub first-option : read-options strict (no-terminator ++ no-length) gives 9 with (1 ∷ 4 ∷ [])
+  pub 8-before-10 : read-options strict (kept 0x77 ++ no-length) gives 8 with (4 ∷ [])
+  pub 9-before-10 : read-options strict (kept 0x77 ++ no-terminator) gives 9 with (1 ∷ 8 ∷ [])
+  pub first-unknown : read-options strict (kept 0x77 ++ kept 0x78) gives 10 with (0x77 ∷ 3 ∷ [])
 
 -- ---- the entries: options before them; 11, 12 for run 1, 12 for run 2; each entry before the next
 
@@ -128,9 +128,9 @@ abbrev pub entries-and-options : (n : ℕ) (entries : List ℕ) (m : ℕ) (optio
 entries-and-options n entries m options = opened n ++ (entries ++ (be32 m ++ options))
 
 pub record EntriesInOrder : Type 0 where
-  pub 8-before-11 : payload (entries-and-options 16 (entry 0x02 0x00) 3 no-length) gives 8 with []
-  pub 10-before-11 : payload (entries-and-options 16 (entry 0x02 0x00) 4 (kept 0x77)) gives 10 with (0x77 ∷ [])
-  pub 10-before-12 : payload (entries-and-options 16 (entry 0x00 0x20) 4 (kept 0x77)) gives 10 with (0x77 ∷ [])
+  pub 8-before-11 : payload (entries-and-options 16 (entry 0x02 0x00) 3 no-length) gives 8 with (0 ∷ [])
+  pub 10-before-11 : payload (entries-and-options 16 (entry 0x02 0x00) 4 (kept 0x77)) gives 10 with (0x77 ∷ 3 ∷ [])
+  pub 10-before-12 : payload (entries-and-options 16 (entry 0x00 0x20) 4 (kept 0x77)) gives 10 with (0x77 ∷ 3 ∷ [])
   pub 11-before-12 : payload (entries-and-options 16 (entry 0x02 0x10) 0 []) gives 11 with (0x02 ∷ [])
   pub run-1-before-run-2 : payload (entries-and-options 16 (entry 0x00 0x11) 0 []) gives 12 with (1 ∷ 0 ∷ 1 ∷ 0 ∷ [])
   pub first-entry : payload (entries-and-options 32 (entry 0x00 0x01 ++ entry 0x02 0x00) 0 []) gives 12 with (2 ∷ 0 ∷ 1 ∷ 0 ∷ [])

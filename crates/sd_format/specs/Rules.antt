@@ -6,19 +6,19 @@ use mathlib.Core.Bool.{false}
 use mathlib.Core.Logic.{_≢_, _⊎_}
 use mathlib.Core.List.{List, [], _∷_, _++_}
 use lib.ListN.{length, take, drop, getD}
-use Rattle.numbers.specs.Refusals.{Refusal, refusal}
+use Rattle.numbers.specs.Refusals.{Refusal, refusal, _at-byte_, moved}
 use Rattle.numbers.specs.Answers.{accepted, All}
 use Rattle.numbers.specs.Bytes.{at16, at32}
-use Rattle.numbers.specs.Rules.{Rules, accept, _if_else_, part_else_, _then_, Refuses, Accepts, FirstRefused}
+use Rattle.numbers.specs.Rules.{Rules, accept, _if_else_, part_else_, _then_, Refuses, Accepts}
 use Rattle.sd_format.specs.Settings.{Settings}
-use Rattle.sd_format.specs.Sequences.{Stops}
+use Rattle.sd_format.specs.Sequences.{Stops, FirstRefused}
 use Rattle.sd_format.specs.Strings.{key-of}
-use Rattle.sd_format.specs.Frames.{Frame, size, read-option, permit, all-options, Run}
+use Rattle.sd_format.specs.Frames.{Frame, size, placed-option, permit, all-options, Run}
 use Rattle.sd_format.specs.Entries.{sixteen, placed-entry}
 use Rattle.sd_format.specs.Layout.{Unknown, RunFits}
 use Rattle.sd_format.specs.Payload.{entries-length, options-length, entries-part, options-part}
 
--- ---- configuration strings: 9 with which of the six errors
+-- ---- configuration strings: 9 with which of the six errors, at the item, at the terminator, or at the string's end
 
 -- the first key byte outside 0x20 to 0x7e
 pub record BadByte (item : ℕ) (key : List ℕ) (r : Refusal) : Type 0 where
@@ -28,26 +28,26 @@ pub record BadByte (item : ℕ) (key : List ℕ) (r : Refusal) : Type 0 where
   pub among : key ≡ before ++ (byte ∷ behind)
   pub good : All (λ b. (0x20 ≤ b) × (b ≤ 0x7e)) before
   pub bad : (byte < 0x20) ⊎ (0x7e < byte)
-  pub says : refusal 9 (5 ∷ item ∷ length before ∷ byte ∷ []) ≡ r
+  pub says : (refusal 9 (5 ∷ item ∷ length before ∷ byte ∷ []) at-byte item) ≡ r
 
 -- an item's key: empty, first bad byte, all spaces
 abbrev pub key-rules : (item : ℕ) (key : List ℕ) → Rules
 key-rules item key =
-    refusal 9 (4 ∷ item ∷ []) if key ≡ [] else
+    refusal 9 (4 ∷ item ∷ []) at-byte item if key ≡ [] else
     part (BadByte item key) else
-    refusal 9 (6 ∷ item ∷ []) if All (λ b. b ≡ 0x20) key else
+    refusal 9 (6 ∷ item ∷ []) at-byte item if All (λ b. b ≡ 0x20) key else
     accept
 
 -- the item whose length byte `n` stands at place `item`, with the bytes behind that byte: its length, then its key
 abbrev pub item-rules : (item n : ℕ) (rest : List ℕ) → Rules
 item-rules item n rest =
-    refusal 9 (2 ∷ item ∷ n ∷ length rest ∷ []) if length rest < n else
+    refusal 9 (2 ∷ item ∷ n ∷ length rest ∷ []) at-byte item if length rest < n else
     key-rules item (key-of (take n rest))
 
 -- the string from place `at` on: no terminator, bytes behind it, or the first item that is refused
 pub data StringRefused : (at : ℕ) → List ℕ → Refusal → Type 0 where
-  unterminated : {at : ℕ} → StringRefused at [] (refusal 9 (1 ∷ []))
-  trailing : {at : ℕ} {rest : List ℕ} → rest ≢ [] → StringRefused at (0 ∷ rest) (refusal 9 (3 ∷ at ∷ []))
+  unterminated : {at : ℕ} → StringRefused at [] (refusal 9 (1 ∷ []) at-byte at)
+  trailing : {at : ℕ} {rest : List ℕ} → rest ≢ [] → StringRefused at (0 ∷ rest) (refusal 9 (3 ∷ at ∷ []) at-byte at)
   this-item : {at n : ℕ} {rest : List ℕ} {r : Refusal} → n ≢ 0 → Refuses (item-rules at n rest) r → StringRefused at (n ∷ rest) r
   later-item : {at n : ℕ} {rest : List ℕ} {r : Refusal} → n ≢ 0 → Accepts (item-rules at n rest) → StringRefused (at + 1 + n) (drop n rest) r
       → StringRefused at (n ∷ rest) r
@@ -74,21 +74,21 @@ pub record OtherLength (type had : ℕ) (r : Refusal) : Type 0 where
   pub needed : ℕ
   pub fixed : Fixed type needed
   pub other : had ≢ needed
-  pub says : refusal 7 (needed ∷ had ∷ 1 ∷ []) ≡ r
+  pub says : (refusal 7 (needed ∷ had ∷ 1 ∷ []) at-byte 0) ≡ r
 
--- its length stands in bytes 0 and 1, its type in byte 2; `Text` says what is refused of a string
+-- its length stands in bytes 0 and 1, its type in byte 2; `Text` says what is refused of a string, which is all bytes after the fourth
 abbrev pub option-rules : (Text : List ℕ → Refusal → Type 0) (s : List ℕ) → Rules
 option-rules Text s =
-    refusal 7 (3 ∷ length s ∷ 0 ∷ []) if length s < 3 else
-    refusal 8 [] if at16 s 0 ≡ 0 else
-    refusal 7 ((3 + at16 s 0) ∷ length s ∷ 0 ∷ []) if length s < 3 + at16 s 0 else
+    refusal 7 (3 ∷ length s ∷ 0 ∷ []) at-byte 0 if length s < 3 else
+    refusal 8 [] at-byte 0 if at16 s 0 ≡ 0 else
+    refusal 7 ((3 + at16 s 0) ∷ length s ∷ 0 ∷ []) at-byte 0 if length s < 3 + at16 s 0 else
     part (OtherLength (getD s 2 0) (at16 s 0)) else
     part (λ r. (getD s 2 0 ≡ 0x01) × Text (drop 1 (take (at16 s 0) (drop 3 s))) r) else
     accept
 
--- the reading judges the string, lookup does not
+-- the reading judges the string, whose first byte is the option's fifth; lookup does not
 abbrev pub Scanned : List ℕ → Refusal → Type 0
-Scanned = StringRefused 0
+Scanned s r = (q : Refusal) × StringRefused 0 s q × (moved 4 q ≡ r)
 
 abbrev pub Unscanned : List ℕ → Refusal → Type 0
 Unscanned s r = ⊥
@@ -98,21 +98,21 @@ Unscanned s r = ⊥
 -- an unknown type without the discardable bit, where the discard setting is off
 abbrev pub permit-rules : Settings → Frame → Rules
 permit-rules g f =
-    refusal 10 (f .type ∷ []) if Unknown (f .type) × (getD (f .body) 0 0 / 0x80 % 2 ≡ 0) × (g .discard ≡ false) else
+    refusal 10 (f .type ∷ []) at-byte 3 if Unknown (f .type) × (getD (f .body) 0 0 / 0x80 % 2 ≡ 0) × (g .discard ≡ false) else
     accept
 
--- each option from the front; after all decode, 10 for the first bad unknown
+-- each option from the front, its place counted from the first byte of all; after all decode, 10 for the first bad unknown
 abbrev pub options-rules : Settings → List ℕ → Rules
 options-rules g s =
-    part (Stops read-option size s) else
-    part (λ r. (fs : List Frame) × (all-options s ≡ accepted fs) × FirstRefused (permit g) fs r) else
+    part (Stops (placed-option (length s)) size s) else
+    part (λ r. (fs : List Frame) × (all-options s ≡ accepted fs) × FirstRefused size (permit g) 0 fs r) else
     accept
 
 -- the index alone
 abbrev pub index-rules : List ℕ → Rules
 index-rules s =
     refusal 13 (length s ∷ []) if 1388 < length s else
-    part (Stops read-option size s) else
+    part (Stops (placed-option (length s)) size s) else
     accept
 
 -- ---- one entry

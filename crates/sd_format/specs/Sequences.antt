@@ -2,11 +2,11 @@
 -- hands them out. Options and entries are both read so. Assumes nothing: these are definitions.
 use Prim.Native.Nat.{ℕ, zero, suc, _+_, _-_, _≤_}
 use mathlib.Core.Path.{_≡_}
-use mathlib.Core.List.{List, [], _∷_}
+use mathlib.Core.List.{List, [], _∷_, _++_}
 use lib.ListN.{length, drop}
 use lib.Dec.{leb}
-use Rattle.numbers.specs.Refusals.{Refusal, nothing-there}
-use Rattle.numbers.specs.Answers.{Answer, accepted, refused, _>>=_, refuse_when_else_}
+use Rattle.numbers.specs.Refusals.{Refusal, moved, nothing-there}
+use Rattle.numbers.specs.Answers.{Answer, accepted, refused, Verdict, pass, _>>=_, _>>_, refuse_when_else_, further, All}
 
 -- `read` reads one part from the front of some bytes, and `size` is how many it takes
 module _ {A : Type 0} (read : List ℕ → Answer A) (size : A → ℕ) where
@@ -40,6 +40,16 @@ unfoldable pub starts : {A : Type 0} → (A → ℕ) → ℕ → List A → List
 starts size at [] = []
 starts size at (a ∷ later) = at ∷ starts size (at + size a) later
 
+-- how many bytes parts take
+unfoldable pub total : {A : Type 0} → (A → ℕ) → List A → ℕ
+total size [] = 0
+total size (a ∷ later) = size a + total size later
+
+-- a test of each part, the first of which starts at `at`: the refusal of the first that is refused, its place counted from where `at` is
+unfoldable pub each-from : {A : Type 0} → (A → ℕ) → (A → Verdict) → (at : ℕ) → List A → Verdict
+each-from size test at [] = pass
+each-from size test at (a ∷ later) = further at (test a) >> each-from size test (at + size a) later
+
 -- the one of number `k`, by counting from the front: 20 at or past the end
 unfoldable pub counted : {A : Type 0} → List A → ℕ → Answer A
 counted [] k = refused nothing-there
@@ -55,3 +65,14 @@ pub data HandsOut {C A : Type 0} (next : C → Answer A) (move : A → C → C) 
 pub data Stops {A : Type 0} (read : List ℕ → Answer A) (size : A → ℕ) : List ℕ → Refusal → Type 0 where
   this-part : {s : List ℕ} {r : Refusal} → 1 ≤ length s → read s ≡ refused r → Stops read size s r
   later-part : {s : List ℕ} {a : A} {r : Refusal} → 1 ≤ length s → read s ≡ accepted a → Stops read size (drop (size a) s) r → Stops read size s r
+
+-- Parts are tested one after the other, the first of which starts at `at`: those before `one` pass, and it is refused where it starts.
+pub record FirstRefused {A : Type 0} (size : A → ℕ) (test : A → Verdict) (at : ℕ) (parts : List A) (r : Refusal) : Type 0 where
+  pub before : List A
+  pub one : A
+  pub behind : List A
+  pub alone : Refusal
+  pub among : parts ≡ before ++ (one ∷ behind)
+  pub passed : All (λ a. test a ≡ pass) before
+  pub refused-there : test one ≡ refused alone
+  pub place : moved (at + total size before) alone ≡ r

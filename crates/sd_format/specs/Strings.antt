@@ -44,9 +44,10 @@ closed item rest =
     refuse trailing-data item when not (eqb (length rest) 0) else
     accepted []
 
--- the items from place `at` on, but for the first `skip` bytes, which belong to an item that was judged already
+-- The items from place `at` on, but for the first `skip` bytes, which belong to an item that was judged already. (So many are there: at the
+-- string's end none are left to skip.)
 unfoldable pub items-from : (at skip : ℕ) → List ℕ → Answer (List (List ℕ))
-items-from at skip [] = refused missing-terminator
+items-from at skip [] = refused (missing-terminator (at + skip))
 items-from at (suc skip) (b ∷ rest) = items-from (at + 1) skip rest
 items-from at zero (n ∷ rest) =
     cond (eqb n 0) (closed at rest)

@@ -17,9 +17,11 @@ use Rattle.sd_format.specs.Layout.{Payload}
 use Rattle.sd_format.specs.Payload.{read-payload, frames-of, handed-out, read-message}
 use Rattle.sd_format.specs.Rules.{string-rules, Scanned, Unscanned, option-rules, permit-rules, options-rules, index-rules, entry-rules, placed-rules, payload-rules, message-rules, lent-rules, look-up-rules, cursor-rules, run-rules}
 use Rattle.sd_format.specs.Demand3.{Demand3, CursorsAgree, LentExactly, IndexExact, MessageExact, StringsExact}
+use Rattle.sd_format.specs.Faults.{PlaceIsThePlace}
 use Rattle.sd_format.specs.Cases.{Cases}
 use Rattle.sd_format.specs.Order.{Order}
 use Rattle.sd_format.specs.Places.{Places}
+use Rattle.sd_format.specs.PlacesTold.{PlacesTold}
 use Rattle.sd_format.specs.Bounds.{Bounds}
 
 -- ---- when which refusal comes, with which values: each reading is refused exactly as its rules say, and accepted exactly where they accept
@@ -74,6 +76,9 @@ pub record Theorems : Type 1 where
   -- what is refused, and in which order
   pub rules-followed : RulesFollowed
   pub order : Order
+  -- and where: the place that a refusal tells is the place
+  pub place-is-the-place : (g : Settings) (s : List ℕ) → Bytes s → PlaceIsThePlace g s
+  pub places-told : PlacesTold
   -- what the lent table holds
   pub tables-left : TablesLeft
   -- the rules' marked cases; and what else is computed: each field at its place, the unmarked cases and the lines of lookup

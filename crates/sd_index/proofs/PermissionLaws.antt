@@ -5,7 +5,7 @@ use mathlib.Core.Logic.{_≢_}
 use mathlib.Core.Bool.{Bool, true, not, _||_}
 use mathlib.Core.List.{List}
 use Rattle.numbers.specs.Refusals.{unknown-option}
-use Rattle.numbers.specs.Answers.{Verdict, pass, refuse_when_else_}
+use Rattle.numbers.specs.Answers.{Verdict, pass, refuse_when_else_, further}
 use Rattle.sd_format.specs.Settings.{Settings}
 use Rattle.sd_format.specs.Kinds.{Kind, configuration, load-balancing, address, unknown, kind-of}
 use Rattle.sd_format.specs.Frames.{Frame, permitted, permit}
@@ -31,15 +31,15 @@ may-known g load-balancing d h = refl
 may-known g (address family role) d h = refl
 may-known g unknown d h = absurd (h refl)
 
--- an unknown type, by the setting and the bit
-unfoldable pub by-bits : ℕ → Bool → Bool → Verdict
-by-bits type setting bit = refuse unknown-option type when not (setting || bit) else pass
+-- an option of unknown type that starts at `at`, by the setting and the bit
+unfoldable pub by-bits : (at type : ℕ) (setting bit : Bool) → Verdict
+by-bits at type setting bit = further at (refuse unknown-option type when not (setting || bit) else pass)
 
-module _ (g : Settings) (h : OptionHead) where
-  pub known-passes : kind-of (h .code) ≢ unknown → permit-told g h ≡ pass
-  unfolding permit-told refuse_when_else_
+module _ (g : Settings) (at : ℕ) (h : OptionHead) where
+  pub known-passes : kind-of (h .code) ≢ unknown → further at (permit-told g h) ≡ pass
+  unfolding permit-told refuse_when_else_ further
   known-passes known = rw (may-known g (kind-of (h .code)) (h .discardable) known)
 
-  pub unknown-told : kind-of (h .code) ≡ unknown → permit-told g h ≡ by-bits (h .code) (g .discard) (h .discardable)
+  pub unknown-told : kind-of (h .code) ≡ unknown → further at (permit-told g h) ≡ by-bits at (h .code) (g .discard) (h .discardable)
   unfolding permit-told by-bits
   unknown-told e = rw e

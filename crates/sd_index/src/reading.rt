@@ -10,8 +10,10 @@ use crate::slots::write_slot;
 use refusal::Count;
 use refusal::Refusal;
 use refusal::Verdict;
+use refusal::moved;
 use sd_option::Settings;
 use sd_option::reading::OptionAnswer;
+use sd_option::reading::STRING_START;
 use sd_option::reading::read_option_unscanned;
 use sd_option::reading::scan;
 ghost use Prim.Native.Nat.{_≤_};
@@ -32,19 +34,20 @@ fn sweep(settings: Settings, options: &[u8], table: &mut [u16]) -> Count
         let rest = option_at(options, at);
         let answer = read_option_unscanned(rest); // read_option, in its two halves
         let OptionAnswer::Good(head) = answer else {
-            return Count::Refused(answer.refusal());
+            return Count::Refused(moved(answer.refusal(), at.0));
         };
         let string = scan(head, rest);
         let Verdict::Passed = string else {
-            return Count::Refused(string.refusal());
+            return Count::Refused(moved(string.refusal(), at.0 + STRING_START));
         };
-        write_slot(table, count, at);
+        let start = at;
+        write_slot(table, count, start);
         count = Ordinal(count.0 + 1);
-        at = Offset(at.0 + head.size);
+        at = Offset(start.0 + head.size);
         let Verdict::Passed = permission else {
             continue; // the first that may not stand counts
         };
-        let verdict = permission_of(settings, head);
+        let verdict = permission_of(settings, head, start);
         let Verdict::Refused(_) = verdict else {
             continue; // nothing is written where it may stand: quicker (docs/SPEED.md)
         };

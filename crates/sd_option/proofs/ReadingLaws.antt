@@ -8,18 +8,20 @@ use native.Mathlib.Omega.{arith}
 use lib.ListN.{length, take, drop, getD, length-drop}
 use lib.Seq.{length-take-le, getD-take, getD-drop, drop-drop, take-nil}
 use borrow.Author.Tests.{lt-ltb, le-ltb, eq-eqb, ne-eqb}
-use Rattle.numbers.specs.Refusals.{Refusal, option-length, option-length-zero}
-use Rattle.numbers.specs.Answers.{Answer, accepted, refused, Verdict, pass, _>>=_, _>>_, refuse_when_else_, given}
+use Rattle.numbers.specs.Refusals.{Refusal, moved, option-length, option-length-zero}
+use Rattle.numbers.specs.Answers.{Answer, accepted, refused, Verdict, pass, _>>=_, _>>_, refuse_when_else_, further, given}
 use Rattle.numbers.specs.Bytes.{at16}
 use Rattle.numbers.proofs.AnswerLaws.{given-accepted, given-refused, then-accepted}
 use Rattle.sd_format.specs.Options.{has}
-use Rattle.sd_format.specs.Kinds.{Kind, configuration, load-balancing, address, unknown, row-of, kind-of, judge-length, judge-text, judge-kind, scanned, unscanned}
+use Rattle.sd_format.specs.Kinds.{Kind, configuration, load-balancing, address, unknown, row-of, kind-of, judge-length, judge-text, judge-kind, string-alone, scanned, unscanned}
 use Rattle.sd_format.specs.Frames.{Frame, frame, one-option, read-option}
 use Rattle.sd_format.proofs.FrameLaws.{frame-says, option-says}
+use Rattle.sd_format.proofs.FaultLaws.{option-told}
 use Rattle.refusal.specs.declared.Refusal as code
 use Rattle.refusal.specs.declared.answers.Verdict as answers
 use Rattle.refusal.specs.declared.answers.Verdict.the-variants as verdict
-use Rattle.refusal.specs.Said.{said, verdict-said}
+use Rattle.refusal.specs.Said.{said, verdict-said, most, moved-capped}
+use Rattle.refusal.proofs.PlaceLaws.{uncapped}
 use Rattle.sd_option.specs.declared.reading.OptionHead.{OptionHead}
 use Rattle.sd_option.specs.declared.reading.OptionAnswer.{OptionAnswer}
 use Rattle.sd_option.specs.declared.reading.OptionAnswer.the-variants as option
@@ -177,20 +179,32 @@ pub refused-before : (s : List ℕ) (r : Refusal) → one-option unscanned s ≡
 unfolding _>>=_
 refused-before s r e = rescanned scanned s ∙ rw e refl
 
+-- a string in its option is judged as it is alone, its place counted from the option
+text-in-option : (k : Kind) (body : List ℕ) → judge-text scanned k body ≡ further 4 (judge-text string-alone k body)
+unfolding judge-text further
+text-in-option configuration body = refl
+text-in-option load-balancing body = refl
+text-in-option (address family role) body = refl
+text-in-option unknown body = refl
+
 -- one that was read is as its string is, by what the code says of that
 module _ (s : List ℕ) (h : OptionHead) (t : Found unscanned s h) (v : answers.Verdict)
-    (told : verdict-said v ≡ judge-text scanned (kind-of (h .code)) (behind-type s (h .size))) where
-  string-decides : read-option s ≡ (verdict-said v >> accepted (front s (h .size - 3)))
+    (told : verdict-said v ≡ judge-text string-alone (kind-of (h .code)) (behind-type s (h .size))) where
+  string-decides : read-option s ≡ (further 4 (verdict-said v) >> accepted (front s (h .size - 3)))
   unfolding _>>=_
-  string-decides = rescanned scanned s ∙ rw (t .reads, told, le-ltb (length s) (h .size) (t .within), t .type) refl
+  string-decides = rescanned scanned s ∙ rw (t .reads, text-in-option, told, le-ltb (length s) (h .size) (t .within), t .type) refl
 
-  pub string-refused : (q : code.Refusal) → v ≡ verdict.Refused q → read-option s ≡ refused (said q)
-  unfolding _>>_
+  pub string-refused : (q : code.Refusal) → v ≡ verdict.Refused q → read-option s ≡ refused (moved 4 (said q))
+  unfolding _>>_ further
   string-refused q e = string-decides ∙ rw e
 
   pub string-passed : v ≡ verdict.Passed → Found scanned s h
-  unfolding _>>_
+  unfolding _>>_ further
   string-passed e = record { some = t .some; within = t .within; type = t .type; fits = t .fits; reads = string-decides ∙ rw e; head = t .head }
+
+-- the place that it is refused at is one that a `usize` holds, as all its bytes are
+pub moved-in-option : (s : List ℕ) (n : ℕ) (r : Refusal) → read-option s ≡ refused (moved n r) → length s ≤ most → moved-capped n r ≡ moved n r
+moved-in-option s n r e few = let (p, there, low) = option-told s (moved n r) e in uncapped n r p there (omega arith)
 
 -- only a configuration option has one
 pub no-string : (text : List ℕ → Verdict) (k : Kind) (body : List ℕ) → k ≢ configuration → judge-text text k body ≡ pass

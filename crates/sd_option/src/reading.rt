@@ -9,11 +9,12 @@ use refusal::Count;
 use refusal::LengthSource;
 use refusal::Refusal;
 use refusal::Verdict;
+use refusal::moved;
 ghost use mathlib.Core.Path.{_≡_};
 ghost use lib.ListN.{drop};
 ghost use Rattle.numbers.specs.Answers.{given, part};
 ghost use Rattle.sd_format.specs.Options.{has};
-ghost use Rattle.sd_format.specs.Kinds.{row-of, kind-of, judge-length, judge-text, scanned, unscanned};
+ghost use Rattle.sd_format.specs.Kinds.{row-of, kind-of, judge-length, judge-text, string-alone, unscanned};
 ghost use Rattle.sd_format.specs.Frames.{frame, one-option, read-option};
 ghost use Rattle.refusal.specs.Said.{verdict-said, count-said};
 ghost use Rattle.sd_option.specs.Reading.{body-length, body-of, behind-type, head-of, option-said, option-refusal};
@@ -22,7 +23,7 @@ ghost use Rattle.sd_option.specs.Reading.{body-length, body-of, behind-t
 pub const FRAME_LEN: usize = 3;
 
 // Where a configuration string begins: behind the first of those bytes.
-const STRING_START: usize = 4;
+pub const STRING_START: usize = 4;
 
 // The bit of the first byte that says that an option may be discarded where it is not known.
 pub const DISCARDABLE: u8 = 0x80;
@@ -61,11 +62,12 @@ fn framed_length(s: &[u8]) -> Count
             needed: FRAME_LEN,
             had,
             source: LengthSource::Slice,
+            place: 0,
         });
     }
     let length = be16(s[0], s[1]) as usize;
     if length == 0 {
-        return Count::Refused(Refusal::OptionLengthZero);
+        return Count::Refused(Refusal::OptionLengthZero { place: 0 });
     }
     let needed = FRAME_LEN + length;
     if had < needed {
@@ -73,6 +75,7 @@ fn framed_length(s: &[u8]) -> Count
             needed,
             had,
             source: LengthSource::Slice,
+            place: 0,
         });
     }
     Count::Good(length)
@@ -93,6 +96,7 @@ fn judged_length(code: u8, had: usize) -> Verdict
             needed,
             had,
             source: LengthSource::OptionLength,
+            place: 0,
         });
     }
     Verdict::Passed
@@ -140,9 +144,10 @@ fn string_of(s: &[u8], size: usize) -> &[u8]
     &s[STRING_START..size]
 }
 
-// The string of a configuration option scanned; any other option has none.
+// The string of a configuration option scanned; any other option has none. A place is counted from the string's first byte, and whoever asks moves
+// it: so this stays small enough for the loop (docs/SPEED.md).
 pub fn scan(head: OptionHead, s: &[u8]) -> Verdict
-    ensures { λ r. ⌜ verdict-said r ≡ judge-text scanned (kind-of (head .code)) (behind-type (now (s .entry)) (head .size)) ⌝ }
+    ensures { λ r. ⌜ verdict-said r ≡ judge-text string-alone (kind-of (head .code)) (behind-type (now (s .entry)) (head .size)) ⌝ }
 {
     let kind = kind_of(head.code);
     let OptionKind::Configuration = kind else {
@@ -161,7 +166,7 @@ pub fn read_option(s: &[u8]) -> OptionAnswer
     };
     let string = scan(head, s);
     let Verdict::Passed = string else {
-        return OptionAnswer::Refused(string.refusal());
+        return OptionAnswer::Refused(moved(string.refusal(), STRING_START));
     };
     answer
 }

@@ -1,16 +1,19 @@
--- Demand 3 of the functions themselves, from their promises and from demand 3 of the definitions. Assumes nothing.
+-- Demand 3 and the place of a refusal, of the functions themselves, from their promises and from the same of the definitions. Assumes nothing.
 use Prim.Native.Nat.{ℕ, _≤_}
 use mathlib.Core.Path.{_≡_, refl, sym, ap, _∙_, subst}
+use mathlib.Core.Logic.{_⊎_, ⊎-elim}
 use mathlib.Core.List.{List, map}
 use native.Mathlib.Omega.{arith}
 use lib.ListN.{length, drop, length-map}
-use Rattle.numbers.specs.Answers.{Answer, accepted, given}
+use Rattle.numbers.specs.Refusals as paper
+use Rattle.numbers.specs.Refusals.{Refusal, untold}
+use Rattle.numbers.specs.Answers.{Answer, accepted, refused, given}
 use Rattle.numbers.specs.Bytes.{Bytes}
-use Rattle.numbers.proofs.AnswerLaws.{accepted-inj, not-refused, given-accepted, then-accepted, then-pass}
+use Rattle.numbers.proofs.AnswerLaws.{accepted-inj, not-refused, given-accepted, given-refused, then-accepted, then-pass}
 use Rattle.numbers.proofs.ByteLaws.{bytes-drop, bytes-take}
 use Rattle.sd_format.specs.Settings.{Settings}
 use Rattle.sd_format.specs.Sequences.{counted}
-use Rattle.sd_format.specs.Frames.{slots, look-up}
+use Rattle.sd_format.specs.Frames.{read-options, slots, look-up}
 use Rattle.sd_format.specs.Fields.{fields}
 use Rattle.sd_format.specs.Entries.{sixteen, placed-entry, read-entries}
 use Rattle.sd_format.specs.Layout.{lay-entry, EntryFits, wire, lay-entries, lay-options, Payload}
@@ -22,13 +25,15 @@ use Rattle.sd_format.proofs.EntryLaws.{length-entry, entry-lay, entry-read}
 use Rattle.sd_format.proofs.PayloadLaws.{read-says, bytes-options}
 use Rattle.sd_format.proofs.Demand3.{demand3, cursors}
 use Rattle.sd_format.proofs.CallLaws.{lent-exactly, message-exact}
+use Rattle.sd_format.proofs.FaultLaws.{place-is-the-place}
+use Rattle.refusal.specs.Said.{said}
 use Rattle.sd_payload.specs.declared.reading.SdPayload.{SdPayload}
 use Rattle.sd_payload.specs.declared.reading.PayloadAnswer.{PayloadAnswer}
 use Rattle.sd_payload.specs.declared.reading.PayloadAnswer.the-variants.{Good, Refused}
 use Rattle.sd_payload.specs.Reads.{summed, payload-said, PayloadRead}
 use Rattle.sd_payload.specs.Sized.{sized}
 use Rattle.sd_payload.specs.Parts.{handed}
-use Rattle.sd_payload.specs.OfTheCode.{summary, Told, told, told-found, AsLaidOut, OfTheCode, OfTheMessage}
+use Rattle.sd_payload.specs.OfTheCode.{summary, Told, told, told-found, AsLaidOut, RefusedThere, OfTheCode, OfTheMessage}
 use Rattle.sd_payload.proofs.PartLaws.{handed-part}
 use Rattle.sd_payload.proofs.HandedOut.{frame-told, frames-told, take-map, drop-map, entries-too, options-too, found-told, run-too}
 
@@ -47,6 +52,15 @@ handed-whole : (g : Settings) (s : List ℕ) (rd : Reading) (r : PayloadAnswer) 
     → handed r s bytes ≡ bytes
 unfolding read-payload sized
 handed-whole g s rd r p bytes read e = rw e (sym (handed-part (Good p) s _ (then-pass _ _ (then-accepted _ _ rd read .0)) bytes))
+
+-- ---- where it is refused
+
+told-there : (g : Settings) (s : List ℕ) → Bytes s → (q : Refusal) (p : ℕ) → q .place ≡ paper.told p
+    → (q .place ≡ untold) ⊎ (read-options g (options-part s) ≡ refused q) → RefusedThere g (options-part s) q
+told-there g s b q p there =
+    ⊎-elim
+    (λ none. let same : untold ≡ paper.told p = sym none ∙ there in let z : _≡_ {A = ℕ} 0 1 = cc in absurd (omega arith))
+    (place-is-the-place g (options-part s) (bytes-options s b) .options q .0)
 
 module _ (g : Settings) (s tab tab′ : List ℕ) (r : PayloadAnswer) (b : Bytes s) (long : 347 ≤ length tab) (h : PayloadRead (read-payload g s) tab tab′ r) where
   came : payload-said r ≡ given summed (read-payload g s)
@@ -142,6 +156,7 @@ module _ (g : Settings) (s tab tab′ : List ℕ) (r : PayloadAnswer) (b : Bytes
         exactly = ((λ a. laid-out (a .0) (a .1)), (λ a. good r (summary (a .0)) (answered (a .0) (a .1))));
         after = λ p q e laid. after-it q laid p e;
         empty = λ q e bytes part is. is ∙ ap (λ (x : PayloadAnswer). handed x s bytes) e;
+        place = λ q e p there. told-there g s b (said q) p there (place-is-the-place g s b .payload (said q) (given-refused summed _ (said q) (sym came ∙ ap payload-said e)));
       }
 
 -- ---- the message
@@ -174,4 +189,7 @@ module _ (g : Settings) (m tab tab′ : List ℕ) (r : PayloadAnswer) (b : Bytes
               good r (summed rd) (message-came ∙ ap (given summed) read)),
         );
         after = λ p e. of-the-code g (drop 16 m) tab tab′ r (bytes-drop m 16 b) long (payload-behind p e);
+        place = λ q e p there.
+            told-there g (drop 16 m) (bytes-drop m 16 b) (said q) p there
+            (place-is-the-place g m b .message (said q) (given-refused summed _ (said q) (sym message-came ∙ ap payload-said e)));
       }

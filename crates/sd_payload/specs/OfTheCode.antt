@@ -1,18 +1,21 @@
--- Demand 3 of the functions themselves: what is so of every outcome that the promises of `read_payload`, `read_message`, the parts, `look_up` and
+-- Demand 3 and the place of a refusal, of the functions themselves: what is so of every outcome that the promises of `read_payload`, `read_message`, the parts, `look_up` and
 -- the cursors allow; proofs/OfTheCode.antt proves it. Assumes nothing: these are definitions.
 use Prim.Native.Nat.{ℕ}
 use mathlib.Core.Path.{_≡_}
-use mathlib.Core.Logic.{_↔_}
+use mathlib.Core.Logic.{_↔_, _⊎_}
 use mathlib.Core.List.{List, [], map}
 use lib.ListN.{length, take, drop, getD}
+use Rattle.numbers.specs.Refusals as paper
 use Rattle.numbers.specs.Answers.{accepted, given}
 use Rattle.refusal.specs.declared.Refusal.{Refusal}
+use Rattle.refusal.specs.Said.{said}
 use Rattle.sd_format.specs.Settings.{Settings}
 use Rattle.sd_format.specs.Sequences.{HandsOut, counted}
 use Rattle.sd_format.specs.Options.{First, Opt, configuring, balancing, addressed, unrecognised}
 use Rattle.sd_format.specs.Layout.{lay-option, lay-entries, lay-options, Payload}
 use Rattle.sd_format.specs.Payload.{entries-part, options-part}
 use Rattle.sd_format.specs.Demand3.{LaidOut, MessageLaidOut}
+use Rattle.sd_format.specs.Faults.{Stopped, NotPermitted}
 use Rattle.sd_option.specs.declared.reading.OptionHead.{OptionHead}
 use Rattle.sd_option.specs.Reading.{option-said}
 use Rattle.sd_entry.specs.declared.cursor.EntryCursor.{EntryCursor}
@@ -89,6 +92,10 @@ pub record AsLaidOut (q : Payload) (r : PayloadAnswer) (count : ℕ) (tab entrie
       → HandsOut (λ c. given (told-found options) (found-said (next c .answer))) (λ o c. next c .cursor) new
       (take left (drop start (map told (q .options))))
 
+-- where options are refused: at one of them, or when all are read
+abbrev pub RefusedThere : Settings → (options : List ℕ) → paper.Refusal → Type 0
+RefusedThere g options q = Stopped options q ⊎ NotPermitted g options q
+
 -- the payload `s` was read with the answer `r` and left the table `tab`
 pub record OfTheCode (g : Settings) (s tab : List ℕ) (r : PayloadAnswer) : Type 0 where
   -- what is accepted is laid out, and what is laid out is accepted
@@ -99,6 +106,8 @@ pub record OfTheCode (g : Settings) (s tab : List ℕ) (r : PayloadAnswer) : Typ
       → AsLaidOut q r (p .options) tab entries options
   -- after a refusal no bytes are handed out
   pub empty : (q : Refusal) → r ≡ Refused q → (bytes part : List ℕ) → part ≡ handed r s bytes → part ≡ []
+  -- and a place that it tells is the place in the options
+  pub place : (q : Refusal) → r ≡ Refused q → (p : ℕ) → said q .place ≡ paper.told p → RefusedThere g (options-part s) (said q)
 
 -- the message `m` was read with the answer `r` and left the table `tab`
 pub record OfTheMessage (g : Settings) (m tab : List ℕ) (r : PayloadAnswer) : Type 0 where
@@ -106,3 +115,5 @@ pub record OfTheMessage (g : Settings) (m tab : List ℕ) (r : PayloadAnswer) : 
   pub exactly : ((p : SdPayload) × (r ≡ Good p)) ↔ ((q : Payload) × MessageLaidOut g m q)
   -- and then all is as after the reading of the payload behind the header
   pub after : (p : SdPayload) → r ≡ Good p → OfTheCode g (drop 16 m) tab r
+  -- a place that a refusal tells is the place in the options, the header not counted
+  pub place : (q : Refusal) → r ≡ Refused q → (p : ℕ) → said q .place ≡ paper.told p → RefusedThere g (options-part (drop 16 m)) (said q)

@@ -1,11 +1,11 @@
 // A message's header: the sixteen bytes in front of its payload.
-use crate::told::told;
 use big_endian::be16;
 use big_endian::be32;
+use words::told;
 ghost use Prim.Native.Nat.{_≤_};
 ghost use lib.ListN.{length};
 
-const HEADER_LEN: usize = 16;
+pub(crate) const HEADER_LEN: usize = 16;
 
 fn wide(b: u8) -> u64 {
     b as u64
@@ -22,6 +22,7 @@ fn ids(m: &[u8])
             be32(m[4], m[5], m[6], m[7]) as u64,
             be16(m[8], m[9]) as u64,
             be16(m[10], m[11]) as u64,
+            0,
         ],
     );
 }
@@ -32,7 +33,7 @@ fn codes(m: &[u8])
 {
     told(
         b", protocol version %0d, interface version %1d, type %22, return code %32\n",
-        [wide(m[12]), wide(m[13]), wide(m[14]), wide(m[15])],
+        [wide(m[12]), wide(m[13]), wide(m[14]), wide(m[15]), 0],
     );
 }
 

@@ -3,12 +3,9 @@
 use print::text;
 use sd_option::Settings;
 
-mod entries; // entries.rt: the entries with their runs
+mod fault; // fault.rt: the byte at which an option was refused, among its neighbours
 mod header; // header.rt: a message's header
-mod options; // options.rt: one option, the options of a run, and all of them
 mod payload; // payload.rt: a whole payload or message
-mod told; // told.rt: text with numbers in it
-mod words; // words.rt: a refusal in words
 
 // What is asked by the words that the program is started with.
 struct Asked {

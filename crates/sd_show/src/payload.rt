@@ -1,15 +1,16 @@
 // A payload, or a message with its header: what is in it, or why it is refused.
-use crate::entries;
+use crate::fault;
 use crate::header;
-use crate::options;
-use crate::told::told;
-use crate::words::refused;
 use print::text;
 use print::yes_or_no;
 use sd_index::SLOTS;
+use sd_lines::entries;
+use sd_lines::options;
 use sd_option::Settings;
 use sd_payload::PayloadAnswer;
 use sd_payload::SdHeaderFlags;
+use words::refused;
+use words::told;
 
 // The line of the answer to a payload of so many bytes.
 fn answered(answer: PayloadAnswer, length: usize) {
@@ -20,6 +21,7 @@ fn answered(answer: PayloadAnswer, length: usize) {
                 length as u64,
                 payload.entries as u64,
                 payload.options as u64,
+                0,
                 0,
             ],
         ),
@@ -54,6 +56,7 @@ pub(crate) fn show(settings: Settings, payload: &[u8]) {
     let mut table = [0u16; SLOTS];
     let answer = sd_payload::read_payload(settings, payload, &mut table);
     answered(answer, payload.len());
+    fault::shown(answer, payload, 0);
     contents(answer, payload, &table);
 }
 
@@ -63,6 +66,7 @@ pub(crate) fn show_message(settings: Settings, message: &[u8]) {
     let answer = sd_payload::read_message(settings, message, &mut table);
     let payload = header::behind(message);
     answered(answer, payload.len());
+    fault::shown(answer, message, header::HEADER_LEN);
     header::header(message);
     contents(answer, payload, &table);
 }

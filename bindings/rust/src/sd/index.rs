@@ -69,11 +69,12 @@ pub struct SdOptionsIndex<'a, 't> {
 }
 
 impl<'a, 't> SdOptionsIndex<'a, 't> {
-    /// Reads an options part into the lent table. Refused by 22, 13, then 7, 8 and 9 of the first option that is wrong.
+    /// Reads an options part into the lent table. Refused by 22, 13, then 7, 8 and 9 of the first option that is wrong, whose place is counted from
+    /// the part's first byte.
     ///
     /// After a refusal the table's 347 slots hold 0; after 22 nothing has changed. Slots past 347 are never touched.
     pub fn from_slice(options: &'a [u8], table: &'t mut [u16]) -> Result<Self, Refusal> {
-        let [len, ..] = ffi::index(options, table).accepted()?;
+        let [len, ..] = ffi::index(options, table).accepted_among_options()?;
         Ok(Self::from_table(options, table, len as usize))
     }
 

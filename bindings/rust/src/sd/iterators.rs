@@ -73,8 +73,8 @@ impl<'a> SdOptionsIterator<'a> {
         }
     }
 
-    /// The next option, or why there is none: 20 at the end, 7, 8 and 9 of an option that is wrong. A refusal leaves the iterator where it
-    /// was.
+    /// The next option, or why there is none: 20 at the end, 7, 8 and 9 of an option that is wrong, with the place counted from that option's
+    /// first byte. A refusal leaves the iterator where it was.
     pub fn advance(&mut self) -> Result<SdOptionSlice<'a>, Refusal> {
         let answer = ffi::next_option(self.options, self.at);
         let option = SdOptionSlice::found(answer, self.options)?;

@@ -27,8 +27,8 @@ pub struct SdMessage<'a, 't> {
 impl<'a, 't> SdMessage<'a, 't> {
     /// Reads a message into the lent table, unknown options that may not be discarded refused.
     ///
-    /// Refused by 22, 1 with 16 below 16 bytes, 14 to 19, then as a payload is, all bytes after the header being the payload. The length
-    /// field and the protocol version are not judged.
+    /// Refused by 22, 1 with 16 below 16 bytes, 14 to 19, then as a payload is, all bytes after the header being the payload; places too are
+    /// those of the payload. The length field and the protocol version are not judged.
     pub fn from_slice(message: &'a [u8], table: &'t mut [u16]) -> Result<Self, Refusal> {
         Self::from_slice_with(message, table, Settings::default())
     }
@@ -40,7 +40,7 @@ impl<'a, 't> SdMessage<'a, 't> {
         settings: Settings,
     ) -> Result<Self, Refusal> {
         let answer = ffi::read_message(message, table, settings.word());
-        answer.accepted()?;
+        answer.accepted_among_options()?;
         let header = SomeipMsgSlice::of(message).ok_or(Refusal::UnexpectedEndOfSlice(16))?;
         let sd = SdSlice::of(answer, header.payload(), table)?;
         Ok(SdMessage { header, sd })

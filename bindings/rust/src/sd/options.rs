@@ -42,11 +42,14 @@ impl From<TransportProtocol> for u8 {
 ///
 /// ```
 /// use viaductle::sd::options::validate_configuration_string;
-/// use viaductle::{Refusal, SdConfigurationStringError};
+/// use viaductle::{Place, Refusal, SdConfigurationStringError};
 ///
 /// assert_eq!(validate_configuration_string(b"\x03a=1\0"), Ok(()));
-/// let error = SdConfigurationStringError::EmptyKey { item_offset: 0 };
-/// assert_eq!(validate_configuration_string(b"\x02=1\0"), Err(Refusal::ConfigurationString(error)));
+/// let refusal = Refusal::ConfigurationString {
+///     error: SdConfigurationStringError::EmptyKey { item_offset: 4 },
+///     place: Place::Alone(4), // of the string
+/// };
+/// assert_eq!(validate_configuration_string(b"\x03a=1\x02=1\0"), Err(refusal));
 /// ```
 pub fn validate_configuration_string(string: &[u8]) -> Result<(), Refusal> {
     ffi::string(string).accepted()?;
@@ -153,8 +156,8 @@ impl<'a> ConfigurationItems<'a> {
         }
     }
 
-    /// The next item, or why there is none: 20 at the closing zero byte and with no bytes left, 9 of an item that is wrong. A refusal leaves
-    /// the iterator where it was.
+    /// The next item, or why there is none: 20 at the closing zero byte and with no bytes left, 9 of an item that is wrong, with its offset and
+    /// place counted from the string's first byte. A refusal leaves the iterator where it was.
     pub fn advance(&mut self) -> Result<ConfigurationItem<'a>, Refusal> {
         let [start, len, ..] = ffi::next_item(self.string, self.at).accepted()?;
         let slice = &self.string[start as usize..][..len as usize];
@@ -382,7 +385,7 @@ impl fmt::Debug for SdOptionSlice<'_> {
 const HEADER: usize = 3;
 
 impl<'a> SdOptionSlice<'a> {
-    /// The option in front of these bytes, and the bytes after it. Refused by 7, 8 and 9.
+    /// The option in front of these bytes, and the bytes after it. Refused by 7, 8 and 9, with the place counted from its first byte.
     pub fn from_slice(slice: &'a [u8]) -> Result<(Self, &'a [u8]), Refusal> {
         let read = ffi::read_option(slice);
         read.answer.accepted()?;

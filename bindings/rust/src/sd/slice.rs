@@ -43,12 +43,14 @@ pub struct SdHeaderFlags {
 ///
 /// ```
 /// use viaductle::sd::{OffsetTable, SdSlice, Settings};
+/// use viaductle::Place;
 ///
 /// // No entries, and one option of unknown type 0x77 that may not be discarded.
 /// let payload = [0, 0, 0, 0, 0, 0, 0, 0, 0, 0, 0, 4, 0, 1, 0x77, 0];
 /// let mut table = OffsetTable::new();
 /// let refusal = SdSlice::from_slice(&payload, &mut table).unwrap_err();
 /// assert_eq!((refusal.number(), refusal.values()[0]), (10, 0x77));
+/// assert_eq!(refusal.place(), Some(Place::Options(3)));
 ///
 /// let settings = Settings { discard_unknown_option: true, ..Default::default() };
 /// let sd = SdSlice::from_slice_with(&payload, &mut table, settings)?;
@@ -66,8 +68,8 @@ pub struct SdSlice<'a, 't> {
 impl<'a, 't> SdSlice<'a, 't> {
     /// Reads a payload into the lent table, unknown options that may not be discarded refused.
     ///
-    /// Refused by 22, 1 to 9, 10, 11 and 12, in the rules' order. After a refusal the table's 347 slots hold 0; after 22 nothing has
-    /// changed. Slots past 347 are never touched.
+    /// Refused by 22, 1 to 9, 10, 11 and 12, in the rules' order; the place of 7 to 10 is counted from the options part's first byte. After a
+    /// refusal the table's 347 slots hold 0; after 22 nothing has changed. Slots past 347 are never touched.
     pub fn from_slice(payload: &'a [u8], table: &'t mut [u16]) -> Result<Self, Refusal> {
         Self::from_slice_with(payload, table, Settings::default())
     }
@@ -100,7 +102,7 @@ impl<'a, 't> SdSlice<'a, 't> {
         payload: &'a [u8],
         table: &'t [u16],
     ) -> Result<Self, Refusal> {
-        let [flags, entries, options, ..] = answer.accepted()?;
+        let [flags, entries, options, ..] = answer.accepted_among_options()?;
         let parts = ffi::parts(payload, answer);
         debug_assert_eq!(entries * ENTRY_LEN as u64, parts.entries_len);
         let part = |at: u64, len: u64| &payload[at as usize..][..len as usize];

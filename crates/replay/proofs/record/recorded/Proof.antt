@@ -6,10 +6,11 @@ use Rattle.replay.proofs.record.recorded.Tie as tie
 
 returns : tie.Need-returns
 returns c =
-    let at-four = c .before .before in
-    let at-values = at-four .before in
-    answer-made (at-values .before .before .before .before .before .before .args .s .now) (at-four .four .ensures)
-    (at-values .before .before .before .before .byte .ensures) (at-values .before .before .before .value .ensures) (at-values .before .before .value2 .ensures) (at-values .before .value3 .ensures) (at-values .value4 .ensures)
+    let at-five = c .before .before in
+    let at-values = at-five .before in
+    answer-made (at-values .before .before .before .before .before .before .before .args .s .now) (at-five .five .ensures)
+    (at-values .before .before .before .before .before .byte .ensures) (at-values .before .before .before .before .value .ensures) (at-values .before .before .before .value2 .ensures) (at-values .before .before .value3 .ensures)
+    (at-values .before .value4 .ensures) (at-values .value5 .ensures)
     (c .byte2 .ensures)
 
 pub recorded-spec : {M : Type 1} → statement M
@@ -18,6 +19,7 @@ recorded-spec =
     (tie.spec
     (λ c κs. search needs)
     (λ c. search needs)
+    (λ c κs. search needs)
     (λ c κs. search needs)
     (λ c κs. search needs)
     (λ c κs. search needs)

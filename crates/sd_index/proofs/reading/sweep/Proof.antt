@@ -1,16 +1,18 @@
 -- `reading::sweep` meets its contract. The invariant: the options read so far stand before those that are read later, and their offsets in front of
 -- the table. The measure is what is left of the bytes. Assumes nothing.
-use Prim.Native.Nat.{ℕ, _-_}
-use mathlib.Core.Path.{_≡_, sym, ap, _∙_}
+use Prim.Native.Nat.{ℕ, _+_, _-_}
+use mathlib.Core.Path.{_≡_, refl, sym, ap, _∙_}
 use mathlib.Core.List.{List}
 use native.Mathlib.Omega.{arith}
 use borrow.Author.Needs.{needs}
 use lib.ListN.{length, drop}
+use Rattle.numbers.specs.Refusals.{moved}
 use Rattle.numbers.specs.Answers.{refused, given}
-use Rattle.sd_format.specs.Kinds.{kind-of, judge-text, scanned, unscanned}
+use Rattle.numbers.proofs.AnswerLaws.{moved-twice}
+use Rattle.sd_format.specs.Kinds.{kind-of, judge-text, string-alone, scanned, unscanned}
 use Rattle.sd_format.specs.Frames.{one-option}
 use Rattle.refusal.specs.declared.Refusal.{Refusal}
-use Rattle.refusal.specs.Said.{said, verdict-said, verdict-refusal}
+use Rattle.refusal.specs.Said.{said, verdict-said, verdict-refusal, moved-capped}
 use Rattle.sd_option.specs.Settings.{settings-said}
 use Rattle.sd_option.specs.Reading.{head-of, option-said, option-refusal, behind-type}
 use Rattle.sd_option.proofs.ReadingLaws.{Found, found, not-found, refused-before, string-refused, string-passed}
@@ -40,11 +42,14 @@ told c = c .read-option-unscanned .ensures ∙ ap (λ (b : List ℕ). given head
 
 returns : tie.Need-returns Inv-loop μ-loop
 returns c =
-    let read = c .before .before .before in
+    let refused-here = c .before in
+    let read = refused-here .before .before .before in
     let turn = read .before .before in
-    let why = c .before .enum-told .given .1 in
-    turn-stops (turn .before .before .loop .inv) (turn .if1 .taken) (c .refusal .result)
-    (refused-before _ _ (not-found unscanned _ _ (told read) _ why) ∙ ap (λ (r : Refusal). refused (said r)) (sym (c .refusal .ensures ∙ ap option-refusal why)))
+    let at : ℕ = turn .before .before .loop .at .0 in
+    let why = refused-here .before .enum-told .given in
+    let r = said (why .0 .0) in
+    turn-stops (turn .before .before .loop .inv) (turn .if1 .taken) r r at (refused-before _ _ (not-found unscanned _ _ (told read) _ (why .1))) refl (omega arith)
+    (c .moved .result) (c .moved .ensures ∙ ap (λ (x : Refusal). moved-capped at (said x)) (refused-here .refusal .ensures ∙ ap option-refusal (why .1)))
 
 -- but for its string
 here : (c : tie.After-known-told Inv-loop μ-loop)
@@ -53,26 +58,30 @@ here c = found unscanned _ _ (told (c .before .before .before)) _ (c .before .an
 
 string-told : (c : tie.After-scan Inv-loop μ-loop)
     → verdict-said (c .scan .result)
-    ≡ judge-text scanned (kind-of (c .before .before .answer .given .0 .0 .code)) (behind-type (rest (c .before .before .before .before .before .before .before .before)) (c .before .before .answer .given .0 .0 .size))
+    ≡ judge-text string-alone (kind-of (c .before .before .answer .given .0 .0 .code)) (behind-type (rest (c .before .before .before .before .before .before .before .before)) (c .before .before .answer .given .0 .0 .size))
 string-told c =
     let head = c .before .before .answer .given .0 .0 in
-    c .scan .ensures ∙ ap (λ (b : List ℕ). judge-text scanned (kind-of (head .code)) (behind-type b (head .size))) (c .before .before .before .before .before .option-at .ensures)
+    c .scan .ensures ∙ ap (λ (b : List ℕ). judge-text string-alone (kind-of (head .code)) (behind-type b (head .size))) (c .before .before .before .before .before .option-at .ensures)
 
 returns-2 : tie.Need-returns-2 Inv-loop μ-loop
 returns-2 c =
-    let scan = c .before .before .before in
+    let refused-here = c .before .before in
+    let scan = refused-here .before .before .before in
     let turn = scan .before .before .before .before .before .before in
-    let why = c .before .enum-told3 .given .1 in
-    turn-stops (turn .before .before .loop .inv) (turn .if1 .taken) (c .refusal2 .result)
-    (string-refused _ _ (here (scan .before)) _ (string-told scan) _ why ∙ ap (λ (r : Refusal). refused (said r)) (sym (c .refusal2 .ensures ∙ ap verdict-refusal why)))
+    let at : ℕ = turn .before .before .loop .at .0 in
+    let why = refused-here .before .enum-told3 .given in
+    let r = said (why .0 .0) in
+    turn-stops (turn .before .before .loop .inv) (turn .if1 .taken) (moved 4 r) r (at + 4) (string-refused _ _ (here (scan .before)) _ (string-told scan) _ (why .1))
+    (sym (moved-twice at 4 r)) (omega arith)
+    (c .moved2 .result) (c .moved2 .ensures ∙ ap (λ (x : Refusal). moved-capped (at + 4) (said x)) (refused-here .refusal2 .ensures ∙ ap verdict-refusal (why .1)))
 
 -- with its string
 whole : (c : tie.After-enum-told2 Inv-loop μ-loop)
     → Found scanned (rest (c .before .before .before .before .before .before .before .before .before .before)) (c .before .before .before .before .answer .given .0 .0)
 whole c = let scan = c .before .before in string-passed _ _ (here (scan .before)) _ (string-told scan) (c .enum-told2 .given .1)
 
-add-t12-2 : tie.Need-add-t12-2 Inv-loop μ-loop
-add-t12-2 c =
+add-t13-2 : tie.Need-add-t13-2 Inv-loop μ-loop
+add-t13-2 c =
     let read = c .before .before .before .before .before .before .before in
     let turn = read .before .before .before .before .before .before .before .before in
     omega (arith, turn-within (turn .before .before .loop .inv) (turn .if1 .taken) _ (whole read))
@@ -139,6 +148,7 @@ sweep-spec =
     (λ c. search needs)
     (λ c. search needs)
     (λ c κs. search needs)
+    (λ c κs. search needs)
     (λ c. omega arith)
     returns
     (λ c κs. search needs)
@@ -146,15 +156,17 @@ sweep-spec =
     (λ c. search needs)
     (λ c κs. search needs)
     (λ c. omega arith)
+    (λ c κs. search needs)
+    (λ c. omega arith)
     returns-2
     (λ c κs. (omega arith, omega arith))
     (λ c. omega arith)
-    add-t12-2
+    add-t13-2
     (λ c. search needs)
     (λ c. search needs)
     loop-less
     loop-again
-    (λ c κs. search needs)
+    (λ c κs. omega arith)
     (λ c. search needs)
     (λ c. search needs)
     loop-less-2

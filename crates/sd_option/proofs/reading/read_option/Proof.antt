@@ -1,12 +1,12 @@
 -- `reading::read_option` meets its contract: the reading without the string, and then the string. Assumes nothing.
 use mathlib.Core.Path.{sym, ap, _∙_}
+use native.Mathlib.Omega.{arith}
 use borrow.Author.Needs.{needs}
 use Rattle.numbers.specs.Answers.{accepted, refused, given}
 use Rattle.sd_format.specs.Kinds.{unscanned}
-use Rattle.refusal.specs.declared.Refusal.{Refusal}
-use Rattle.refusal.specs.Said.{said, verdict-refusal}
+use Rattle.refusal.specs.Said.{said, verdict-refusal, moved-capped}
 use Rattle.sd_option.specs.Reading.{head-of, option-said}
-use Rattle.sd_option.proofs.ReadingLaws.{Found, found, not-found, refused-before, string-refused, string-passed}
+use Rattle.sd_option.proofs.ReadingLaws.{Found, found, not-found, refused-before, string-refused, string-passed, moved-in-option}
 use Rattle.sd_option.proofs.reading.read_option.Statement.{statement}
 use Rattle.sd_option.proofs.reading.read_option.Tie as tie
 
@@ -24,10 +24,13 @@ here c = let b = c .before .before .before in found unscanned _ _ (b .read-optio
 returns-2 : tie.Need-returns-2
 unfolding given
 returns-2 c =
-    let b = c .before .before .before in
-    let told = c .before .enum-told3 .given .1 in
-    ap (λ (r : Refusal). refused (said r)) (c .refusal .ensures ∙ ap verdict-refusal told)
-    ∙ sym (ap (given head-of) (string-refused _ _ (here (b .before)) _ (b .scan .ensures) _ told))
+    let why = c .before .before in
+    let b = why .before .before in
+    let told = why .enum-told3 .given .1 in
+    let stops = string-refused _ _ (here (b .before)) _ (b .scan .ensures) _ told in
+    let same = ap said (c .before .refusal .ensures ∙ ap verdict-refusal told) in
+    ap refused (c .moved .ensures ∙ ap (moved-capped 4) same ∙ moved-in-option _ 4 (said (why .enum-told3 .given .0 .0)) stops (omega arith))
+    ∙ sym (ap (given head-of) stops)
 
 returns-3 : tie.Need-returns-3
 unfolding given
@@ -47,6 +50,7 @@ read-option-spec =
     (λ c κs. search needs)
     (λ c. search needs)
     (λ c. search needs)
+    (λ c κs. search needs)
     (λ c κs. search needs)
     returns-2
     returns-3)

@@ -3,7 +3,7 @@ use Prim.Native.Nat.{ℕ}
 use mathlib.Core.Path.{sym, ap, _∙_}
 use mathlib.Core.List.{List, [], _∷_}
 use borrow.Author.Needs.{needs}
-use Rattle.sd_format.specs.Kinds.{Kind, judge-text, scanned}
+use Rattle.sd_format.specs.Kinds.{Kind, judge-text, string-alone}
 use Rattle.sd_option.specs.declared.kinds.OptionKind.the-variants.{Configuration}
 use Rattle.sd_option.specs.Kinds.{kind-said}
 use Rattle.sd_option.specs.Reading.{behind-type}
@@ -15,7 +15,7 @@ use Rattle.sd_option.proofs.reading.scan.Tie as tie
 returns : tie.Need-returns
 returns c =
     let k = c .before in
-    sym (no-string scanned _ _ (λ is. other-arm Configuration (k .kind-of .result) (1 ∷ 2 ∷ 3 ∷ []) tt (c .match .keys2) (k .kind-of .ensures ∙ is)))
+    sym (no-string string-alone _ _ (λ is. other-arm Configuration (k .kind-of .result) (1 ∷ 2 ∷ 3 ∷ []) tt (c .match .keys2) (k .kind-of .ensures ∙ is)))
 
 returns-2 : tie.Need-returns-2
 unfolding judge-text
@@ -25,8 +25,8 @@ returns-2 c =
     let args = k .before .before .args in
     let body : List ℕ = behind-type (args .s .now) (args .head .size) in
     c .check-string .ensures
-    ∙ ap scanned (c .before .string-of .ensures)
-    ∙ sym (ap (λ (kind : Kind). judge-text scanned kind body) (sym (k .kind-of .ensures) ∙ ap kind-said (arm .enum-told .given .1)))
+    ∙ ap string-alone (c .before .string-of .ensures)
+    ∙ sym (ap (λ (kind : Kind). judge-text string-alone kind body) (sym (k .kind-of .ensures) ∙ ap kind-said (arm .enum-told .given .1)))
 
 pub scan-spec : {M : Type 1} → statement M
 scan-spec =
