@@ -1,12 +1,12 @@
 -- Laws of answers: which way a test goes, and what an acceptance says. Assumes nothing.
 use mathlib.Core.Path.{_≡_, refl, sym, ap, _∙_}
 use mathlib.Core.Bool.{Bool, true, false, not, false≢true}
-use Prim.Native.Nat.{ℕ, _+_}
+use Prim.Native.Nat.{ℕ, _+_, _<_}
 use mathlib.Core.List.{List, [], _∷_}
 use mathlib.Core.Logic.{_↔_, _⊎_, inl, inr}
 use native.Mathlib.Omega.{arith}
-use Rattle.numbers.specs.Refusals.{Place, untold, told, Refusal, _at-byte_, moved-place, moved}
-use Rattle.numbers.specs.Answers.{Answer, accepted, refused, Verdict, pass, _>>=_, _>>_, refuse_when_else_, further, given, All}
+use Rattle.numbers.specs.Refusals.{Place, untold, told, Refusal, _at-byte_, gives, moved-place, moved}
+use Rattle.numbers.specs.Answers.{Answer, accepted, refused, Verdict, pass, _>>=_, _>>_, refuse_when_else_, further, given, All, _gives_with_}
 
 module _ {A : Type 0} where
   pub when-hit : (r : Refusal) (b : Bool) (a : Answer A) → b ≡ true → (refuse r when b else a) ≡ refused r
@@ -90,6 +90,12 @@ module _ {A B : Type 0} where
   unfolding _>>=_
   bind-stopped (accepted x) f q e = inr (x, refl, e)
   bind-stopped (refused r) f q e = inl (ap refused (refused-inj {A = B} r q e))
+
+-- what gives a number is a refusal, of that number and with those values
+module _ {A : Type 0} where
+  pub gives-refused : (a : Answer A) (n : ℕ) (vs : List ℕ) → 0 < n → a gives n with vs → (r : Refusal) × (a ≡ refused r) × (r .number ≡ n) × ((gives) r ≡ vs)
+  gives-refused (accepted x) n vs some e = let same : 0 ≡ n = cc in absurd (omega arith)
+  gives-refused (refused r) n vs some e = (r, refl, cc, cc)
 
 -- a place that is moved
 pub moved-there : (r : Refusal) (n p : ℕ) → r .place ≡ told p → moved n r ≡ (r at-byte n + p)
