@@ -2,4 +2,5 @@ pub mod ClassLaws
 pub mod KeyLaws
 pub mod ItemLaws
 pub mod ItemsHanded
+pub mod ItemsFollow
 pub mod OneAnswer
