@@ -1,6 +1,6 @@
 -- Laws of places that are counted from further to the front: where a `usize` holds them, they are the definitions' own. Assumes nothing.
 use Prim.Native.Nat.{ℕ, _+_, _≤_, _<_}
-use mathlib.Core.Path.{_≡_, refl, ap}
+use mathlib.Core.Path.{_≡_, refl, sym, ap, _∙_}
 use native.Mathlib.Omega.{arith}
 use mathlib.Core.Bool.{Bool, cond}
 use borrow.Author.Tests.{lt-ltb, le-ltb}
@@ -16,7 +16,13 @@ pub not-held : (p : ℕ) → most < p → capped p ≡ most
 not-held p h = ap (λ (b : Bool). cond b most p) (lt-ltb most p h)
 
 pub capped-place : Capped
-capped-place = record { held = held; not-held = not-held }
+capped-place =
+    record {
+      held = held;
+      not-held = not-held;
+      moved = λ n p r e. λ i. record { number = r .number; values = r .values; place = place-capped (moved-place n (e i)) };
+      not-moved = λ n r e. λ i. record { number = r .number; values = r .values; place = (ap (λ (x : Place). place-capped (moved-place n x)) e ∙ sym e) i };
+    }
 
 -- ---- a place that a `usize` holds
 

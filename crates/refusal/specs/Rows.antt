@@ -5,7 +5,7 @@ use mathlib.Core.Path.{_≡_}
 use mathlib.Core.List.{List, [], _∷_}
 use lib.ListN.{length, take, getD}
 use Rattle.numbers.specs.Refusals as paper
-use Rattle.numbers.specs.Refusals.{refusal, _at-byte_, told, gives}
+use Rattle.numbers.specs.Refusals.{refusal, _at-byte_, untold, told, gives}
 use Rattle.numbers.specs.Answers.{accepted, refused}
 use Rattle.refusal.specs.declared.LengthSource.the-variants.{Slice, OptionLength}
 use Rattle.refusal.specs.declared.StringError.the-variants as string
@@ -14,7 +14,7 @@ use Rattle.refusal.specs.declared.Refusal.the-variants as code
 use Rattle.refusal.specs.declared.answers.Verdict.the-variants as verdict
 use Rattle.refusal.specs.declared.answers.Count.the-variants as count
 use Rattle.refusal.specs.declared.values.Numbers.{Numbers}
-use Rattle.refusal.specs.Said.{said, verdict-said, count-said, places, laid, capped}
+use Rattle.refusal.specs.Said.{said, verdict-said, count-said, places, laid, capped, moved-capped}
 
 -- a refusal's number and values, and where it tells a place, that
 abbrev pub row : Refusal → paper.Refusal
@@ -87,3 +87,6 @@ pub record Rows : Type 0 where
 pub record Capped : Type 0 where
   pub held : (p : ℕ) → p ≤ 18446744073709551615 → capped p ≡ p
   pub not-held : (p : ℕ) → 18446744073709551615 < p → capped p ≡ 18446744073709551615
+  -- so a refusal's place is moved, and nothing else of it
+  pub moved : (n p : ℕ) (r : paper.Refusal) → r .place ≡ told p → moved-capped n r ≡ (r at-byte capped (n + p))
+  pub not-moved : (n : ℕ) (r : paper.Refusal) → r .place ≡ untold → moved-capped n r ≡ r
