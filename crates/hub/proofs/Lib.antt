@@ -8,6 +8,7 @@ pub mod OneOutcome
 pub mod Telling
 pub mod HandedLaws
 pub mod OfTheHub
+pub mod Refused
 pub mod ByName
 pub mod Called
 pub mod Marked

@@ -28,11 +28,14 @@ use Rattle.hub.specs.Payload.{settings-of, summary-values, Reads}
 use Rattle.hub.specs.Refused.{RefusedToC}
 
 -- a payload or a message that was read with a table that is long enough
-payload-answer : (a : Answer Reading) (tab tab′ : List ℕ) (r : hub.Answer) → 347 ≤ length tab → Reads a tab r tab′ → (q : Refusal) → a ≡ refused q → r ≡ row (q .number) (gives q)
+payload-answer : (a : Answer Reading) (tab tab′ : List ℕ) (r : hub.Answer) → 347 ≤ length tab → Reads a tab r tab′ → (q : Refusal) → a ≡ refused q
+    → r ≡ row (q .number) (gives q)
 unfolding given
-payload-answer a tab tab′ r long h q e = h .answers ∙ ap (λ (x : Answer Reading). Answers.told summary-values (given summed x)) (lent-exactly tab a .enough long ∙ e)
+payload-answer a tab tab′ r long h q e =
+    h .answers ∙ ap (λ (x : Answer Reading). Answers.told summary-values (given summed x)) (lent-exactly tab a .enough long ∙ e)
 
-index-answer : (s tab tab′ : List ℕ) (r : hub.Answer) → 347 ≤ length tab → Indexes s tab r tab′ → (q : Refusal) → read-index s ≡ refused q → r ≡ row (q .number) (gives q)
+index-answer : (s tab tab′ : List ℕ) (r : hub.Answer) → 347 ≤ length tab → Indexes s tab r tab′ → (q : Refusal) → read-index s ≡ refused q
+    → r ≡ row (q .number) (gives q)
 unfolding given
 index-answer s tab tab′ r long h q e =
     h .answers ∙ ap (λ (x : Answer (List Frame)). Answers.told one-value (given length x)) (lent-exactly tab (read-index s) .enough long ∙ e)

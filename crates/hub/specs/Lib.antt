@@ -5,5 +5,6 @@ pub mod Entries
 pub mod Payload
 pub mod Telling
 pub mod OfTheHub
+pub mod Refused
 pub mod ByName
 pub mod Marked

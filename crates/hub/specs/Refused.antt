@@ -33,4 +33,5 @@ pub record RefusedToC : Type 0 where
   pub index : (s tab tab′ : List ℕ) (r : Answer) → Bytes s → 347 ≤ length tab → Indexes s tab r tab′
       → (q : Refusal) → read-index s ≡ refused q → ToldRefused (λ p. Stopped s q) q r
   -- viaductle_read_option: the place in that option
-  pub option : (s : List ℕ) (r : Option) → Bytes s → r ≡ read-option-told s → (q : Refusal) → read-option s ≡ refused q → ToldRefused (OneRefused s q) q (r .answer)
+  pub option : (s : List ℕ) (r : Option) → Bytes s → r ≡ read-option-told s
+      → (q : Refusal) → read-option s ≡ refused q → ToldRefused (OneRefused s q) q (r .answer)

@@ -55,7 +55,7 @@ handed-whole g s rd r p bytes read e = rw e (sym (handed-part (Good p) s _ (then
 
 -- ---- where it is refused
 
-told-there : (g : Settings) (s : List ℕ) → Bytes s → (q : Refusal) (p : ℕ) → q .place ≡ paper.told p
+pub told-there : (g : Settings) (s : List ℕ) → Bytes s → (q : Refusal) (p : ℕ) → q .place ≡ paper.told p
     → (q .place ≡ untold) ⊎ (read-options g (options-part s) ≡ refused q) → RefusedThere g (options-part s) q
 told-there g s b q p there =
     ⊎-elim
