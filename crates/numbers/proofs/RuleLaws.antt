@@ -1,9 +1,9 @@
 -- Which answers follow which rules: line by line, as the definitions are written. Assumes nothing.
-use mathlib.Core.Path.{_≡_, refl, sym, ap, _∙_}
+use mathlib.Core.Path.{_≡_, refl, sym, ap}
 use mathlib.Core.Bool.{Bool, true, false, false≢true}
 use mathlib.Core.Logic.{_↔_, _⊎_, inl, inr, ⊎-elim}
 use Rattle.numbers.specs.Refusals.{Refusal}
-use Rattle.numbers.specs.Answers.{Answer, accepted, refused, Verdict, pass, _>>=_, _>>_, refuse_when_else_, given}
+use Rattle.numbers.specs.Answers.{Answer, accepted, refused, Verdict, _>>=_, _>>_, refuse_when_else_, given}
 use Rattle.numbers.specs.Rules.{Rules, accept, _if_else_, part_else_, _then_, Refuses, Accepts, Follows}
 use Rattle.numbers.proofs.AnswerLaws.{not-refused, refused-inj, given-refused}
 

@@ -2,9 +2,8 @@
 -- its rules is refused by no other number, with no other values and in no other order. Assumes nothing: these are definitions.
 use mathlib.Core.Path.{_≡_}
 use mathlib.Core.Logic.{_↔_, _⊎_}
-use mathlib.Core.List.{List, _∷_, _++_}
 use Rattle.numbers.specs.Refusals.{Refusal}
-use Rattle.numbers.specs.Answers.{Answer, accepted, refused, Verdict, pass, All}
+use Rattle.numbers.specs.Answers.{Answer, accepted, refused}
 
 infixr 1 _if_else_ part_else_ _then_
 pub data Rules : Type 1 where

@@ -2,7 +2,7 @@
 -- definition is used here. Assumes nothing: these are definitions.
 use Prim.Native.Nat.{ℕ, _+_, _<_, _≤_}
 use mathlib.Core.Path.{_≡_}
-use mathlib.Core.List.{List, [], _∷_}
+use mathlib.Core.List.{[], _∷_}
 use lib.ListN.{length, take, getD}
 use Rattle.numbers.specs.Refusals as paper
 use Rattle.numbers.specs.Refusals.{refusal, _at-byte_, untold, told, gives}

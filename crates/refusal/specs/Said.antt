@@ -1,6 +1,6 @@
 -- The rules' number and values for everything that the code refuses, and what the answers say that all layers share. Assumes nothing:
 -- these are definitions.
-use Prim.Native.Nat.{ℕ, zero, suc, _+_}
+use Prim.Native.Nat.{ℕ, zero, suc}
 use mathlib.Core.Bool.{cond}
 use mathlib.Core.List.{List, [], _∷_}
 use lib.ListN.{length}

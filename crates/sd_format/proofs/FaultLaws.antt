@@ -1,6 +1,6 @@
 -- Where a refusal of the options stands: in a string, in one option, among all; and that no other refusal tells a place. Assumes nothing.
 use mathlib.Core.Path.{_≡_, refl, sym, ap, _∙_, subst}
-use mathlib.Core.Bool.{Bool, true, false, not}
+use mathlib.Core.Bool.{false, not}
 use mathlib.Core.Logic.{_≢_, _⊎_, inl, inr, ⊎-elim}
 use mathlib.Core.List.{List, [], _∷_, _++_, append-assoc, map}
 use Prim.Native.Nat.{ℕ, suc, _+_, _-_, _≤_, _<_}
@@ -9,22 +9,22 @@ use lib.ListN.{length, take, drop, getD, length-drop, take-append-drop}
 use lib.Seq.{take-add, drop-drop, length-take-le, getD-append-add}
 use borrow.Author.Tests.{le-ltb}
 use Rattle.numbers.specs.Refusals.{Refusal, refusal, _at-byte_, untold, told, moved-place, moved, unknown-option}
-use Rattle.numbers.specs.Answers.{accepted, refused, pass, _>>=_, _>>_, refuse_when_else_, further, All}
-use Rattle.numbers.specs.Rules.{Rules, accept, _if_else_, part_else_, Refuses, Accepts}
+use Rattle.numbers.specs.Answers.{accepted, refused, _>>=_, _>>_, refuse_when_else_, further, All}
+use Rattle.numbers.specs.Rules.{Rules, accept, _if_else_, part_else_, Refuses}
 use Rattle.numbers.specs.Bytes.{Bytes, be16, at16}
 use Rattle.numbers.proofs.AnswerLaws.{moved-there, when-hit, when-pass, not-refused, bind-refused, then-refused, further-refused, bind-stopped, all-map}
 use Rattle.numbers.proofs.ByteLaws.{bytes-left, bytes-right, bytes-take}
 use Rattle.sd_format.specs.Settings.{Settings}
-use Rattle.sd_format.specs.Sequences.{all, total, each-from, Stops, this-part, later-part, FirstRefused}
+use Rattle.sd_format.specs.Sequences.{all, total, Stops, this-part, later-part, FirstRefused}
 use Rattle.sd_format.specs.Options.{First, Opt, configuring, balancing, addressed, unrecognised, has}
-use Rattle.sd_format.specs.Strings.{key-of, read-string}
-use Rattle.sd_format.specs.Kinds.{Row, unknown, kind-of, scanned}
-use Rattle.sd_format.specs.Frames.{Frame, size, frame, read-option, placed-option, permitted, permit, all-options, read-options, read-index}
+use Rattle.sd_format.specs.Strings.{key-of}
+use Rattle.sd_format.specs.Kinds.{Row, kind-of, scanned}
+use Rattle.sd_format.specs.Frames.{Frame, size, read-option, placed-option, permitted, permit, all-options, read-options, read-index}
 use Rattle.sd_format.specs.Fields.{first, fields, fields-of}
 use Rattle.sd_format.specs.Entries.{sixteen, placed-entry}
 use Rattle.sd_format.specs.Layout.{GoodItem, lay-items, lay-all, lay-first, lay-option, lay-options, wire, Unknown, OptionFits}
 use Rattle.sd_format.specs.Payload.{options-part, read-payload, read-message}
-use Rattle.sd_format.specs.Rules.{key-rules, item-rules, StringRefused, unterminated, trailing, this-item, later-item, Scanned, option-rules, permit-rules, placed-rules, size-rules, header-rules}
+use Rattle.sd_format.specs.Rules.{key-rules, item-rules, StringRefused, unterminated, trailing, this-item, later-item, Scanned, placed-rules, size-rules, header-rules}
 use Rattle.sd_format.specs.Faults as faults
 use Rattle.sd_format.specs.Faults.{StringFault, StringStopped, OneRefused, by-length, by-zero, by-string, undecided, Stopped, NotPermitted, PlaceIsThePlace}
 use Rattle.sd_format.proofs.SequenceLaws.{stopped-at, all-refuses, each-refused, lay-append, lay-length}

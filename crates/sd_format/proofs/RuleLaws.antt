@@ -8,7 +8,7 @@ use native.Mathlib.Omega.{arith}
 use lib.ListN.{length, take, drop, getD, length-drop}
 use lib.Seq.{length-take-le}
 use borrow.Author.Tests.{eqb-false, ne-eqb, not-true}
-use Rattle.numbers.specs.Refusals.{Refusal, refusal, _at-byte_, moved}
+use Rattle.numbers.specs.Refusals.{Refusal, refusal, _at-byte_}
 use Rattle.numbers.specs.Answers.{Answer, accepted, refused, Verdict, pass, _>>_, further, verdict}
 use Rattle.numbers.specs.Bytes.{at16, at32}
 use Rattle.numbers.specs.Rules.{Rules, accept, _if_else_, part_else_, _then_, Accepts, Follows}
