@@ -108,12 +108,31 @@ moved-place-twice m n (told p) = ap told (omega arith)
 pub moved-twice : (m n : ℕ) (r : Refusal) → moved m (moved n r) ≡ moved (m + n) r
 moved-twice m n r = λ i. record { number = r .number; values = r .values; place = moved-place-twice m n (r .place) i }
 
+-- and back
+moved-place-one : (n : ℕ) (p q : Place) → moved-place n p ≡ moved-place n q → p ≡ q
+moved-place-one n untold untold e = refl
+moved-place-one n untold (told q) e = let clash : _≡_ {A = ℕ} 0 1 = cc in absurd (omega arith)
+moved-place-one n (told p) untold e = let clash : _≡_ {A = ℕ} 0 1 = cc in absurd (omega arith)
+moved-place-one n (told p) (told q) e = let same : n + p ≡ n + q = cc in ap told (omega arith)
+
+moved-one : (n : ℕ) (r q : Refusal) → moved n r ≡ moved n q → r ≡ q
+moved-one n r q e =
+    let place = moved-place-one n (r .place) (q .place) (ap (λ (x : Refusal). x .place) e) in
+    λ i. record { number = e i .number; values = e i .values; place = place i }
+
 -- where a refusal stands does not touch what is accepted
 module _ {A : Type 0} where
   pub further-accepted : (n : ℕ) (a : Answer A) (x : A) → (further n a ≡ accepted x) ↔ (a ≡ accepted x)
   unfolding further
   further-accepted n (accepted y) x = ((λ e. e), (λ e. e))
   further-accepted n (refused r) x = ((λ e. not-refused _ x e), (λ e. not-refused r x e))
+
+  pub further-one : (n : ℕ) (a b : Answer A) → further n a ≡ further n b → a ≡ b
+  unfolding further
+  further-one n (accepted x) (accepted y) e = e
+  further-one n (accepted x) (refused q) e = not-refused _ x (sym e)
+  further-one n (refused r) (accepted y) e = not-refused _ y e
+  further-one n (refused r) (refused q) e = ap refused (moved-one n r q (refused-inj {A = A} _ _ e))
 
 -- a test, and what comes after it
 module _ {A : Type 0} where

@@ -3,7 +3,7 @@ use mathlib.Core.Path.{_≡_, refl, sym, ap}
 use mathlib.Core.Bool.{Bool, true, false, false≢true}
 use mathlib.Core.Logic.{_↔_, _⊎_, inl, inr, ⊎-elim}
 use Rattle.numbers.specs.Refusals.{Refusal}
-use Rattle.numbers.specs.Answers.{Answer, accepted, refused, Verdict, _>>=_, _>>_, refuse_when_else_, given}
+use Rattle.numbers.specs.Answers.{Answer, accepted, refused, Verdict, pass, _>>=_, _>>_, refuse_when_else_, given}
 use Rattle.numbers.specs.Rules.{Rules, accept, _if_else_, part_else_, _then_, Refuses, Accepts, Follows}
 use Rattle.numbers.proofs.AnswerLaws.{not-refused, refused-inj, given-refused}
 
@@ -104,8 +104,11 @@ unfolding _>>_ _>>=_
 verdict-first (accepted u) a = refl
 verdict-first (refused r) a = refl
 
+pub follows-after : {B : Type 0} (v : Verdict) (a : Answer B) (rules later : Rules) → Follows v rules → (v ≡ pass → Follows a later) → Follows (v >> a) (rules then later)
+follows-after v a rules later first next = rw (verdict-first v a) (follows-bind v (λ u. a) rules later first (λ u e. next e))
+
 pub follows-then : {B : Type 0} (v : Verdict) (a : Answer B) (rules later : Rules) → Follows v rules → Follows a later → Follows (v >> a) (rules then later)
-follows-then v a rules later first next = rw (verdict-first v a) (follows-bind v (λ u. a) rules later first (λ u e. next))
+follows-then v a rules later first next = follows-after v a rules later first (λ passed. next)
 
 -- a part whose refusals are these
 pub follows-part : {A : Type 0} (P : Refusal → Type 0) (m : Answer A) → ((r : Refusal) → (m ≡ refused r) ↔ P r) → Follows m (part P else accept)

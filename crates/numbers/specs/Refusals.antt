@@ -3,7 +3,7 @@
 use Prim.Native.Nat.{ℕ, _+_}
 use mathlib.Core.List.{List, [], _∷_, _++_}
 
--- the byte at which a reading was refused, where the refusal tells it: 7 to 10 do
+-- the byte at which a reading was refused, where the refusal tells it: 7 to 10 and 23 do
 pub data Place : Type 0 where
   untold : Place
   told : ℕ → Place
@@ -88,6 +88,10 @@ only-whitespace item = refusal 9 (6 ∷ item ∷ []) at-byte item
 -- the byte with the discardable bit is the option's fourth
 abbrev pub unknown-option : (type : ℕ) → Refusal
 unknown-option type = refusal 10 (type ∷ []) at-byte 3
+
+-- the protocol stands behind the option's address, so that its byte hangs on how wide that is
+abbrev pub wrong-protocol : (protocol byte : ℕ) → Refusal
+wrong-protocol protocol byte = refusal 23 (protocol ∷ []) at-byte byte
 
 -- ---- one entry
 

@@ -13,17 +13,17 @@ use Rattle.numbers.proofs.AnswerLaws.{when-hit, when-pass, when-accepted, given
 use Rattle.numbers.proofs.ByteLaws.{bytes-drop, be16-at, be32-at, take-tab}
 use Rattle.sd_format.specs.Settings.{Settings}
 use Rattle.sd_format.specs.Options.{Opt}
-use Rattle.sd_format.specs.Kinds.{Kind, configuration, load-balancing, address, unknown, kind-of}
+use Rattle.sd_format.specs.Kinds.{Kind, configuration, load-balancing, address, unknown, kind-of, judge-content}
 use Rattle.sd_format.specs.Sequences.{each-from, counted}
 use Rattle.sd_format.specs.Frames.{Frame, size, permitted, permit, all-options, read-options, slots, lent, table-after, read-index, look-up}
 use Rattle.sd_format.specs.Fields.{fields}
 use Rattle.sd_format.specs.Layout.{OptionFits, lay-options, wire, lay, Header, lay-header}
 use Rattle.sd_format.specs.Payload.{options-part, read-payload, frames-of, shown, handed-out, header, read-message}
-use Rattle.sd_format.specs.Demand3.{LentExactly, IndexLaidOut, IndexExact, MessageExact}
+use Rattle.sd_format.specs.Demand3.{LentExactly, undecided, IndexLaidOut, IndexExact, MessageExact}
 use Rattle.sd_format.specs.Theorems.{TablesLeft}
 use Rattle.sd_format.proofs.SequenceLaws.{counted-map}
 use Rattle.sd_format.proofs.TableLaws.{Few, table-law}
-use Rattle.sd_format.proofs.OptionLaws.{read-parts, permits-all, few-slots-used, looked-up, options-lay, options-read, options-own}
+use Rattle.sd_format.proofs.OptionLaws.{all-judged-alike, read-parts, permits-all, few-slots-used, looked-up, options-lay, options-read, options-own}
 use Rattle.sd_format.proofs.PayloadLaws.{lay-handed, read-says, options-part-length}
 use Rattle.sd_format.proofs.Demand3.{demand3}
 
@@ -44,7 +44,7 @@ payload-few g s fs e =
     let (r, read, same) = given-accepted _ _ fs e in
     let says = read-says g s r read in
     let short : length (options-part s) ≤ 1388 = rw (options-part-length s (says .sizes-fit)) (says .sizes-fit .short-options) in
-    rw (← same) (few-slots-used (options-part s) (r .frames) (read-parts g _ (r .frames) .0 (says .frames-read) .0) short)
+    rw (← same) (few-slots-used g (options-part s) (r .frames) (read-parts g _ (r .frames) .0 (says .frames-read) .0) short)
 
 message-few : (g : Settings) (s : List ℕ) → Few (frames-of (read-message g s))
 unfolding read-message given
@@ -52,69 +52,77 @@ message-few g s fs e =
     let (r, read, same) = given-accepted _ _ fs e in
     payload-few g (drop 16 s) fs (ap frames-of (then-accepted _ _ _ read .1) ∙ ap accepted same)
 
-index-few : (s : List ℕ) → Few (read-index s)
+index-few : (g : Settings) (s : List ℕ) → Few (read-index g s)
 unfolding read-index
-index-few s fs e = let (short, read) = when-accepted _ _ _ _ e in few-slots-used s fs read (ltb-false 1388 (length s) short)
+index-few g s fs e = let (short, read) = when-accepted _ _ _ _ e in few-slots-used g s fs read (ltb-false 1388 (length s) short)
 
 pub tables-left : TablesLeft
 tables-left = record {
   payload = λ g s tab. table-law tab _ (payload-few g s);
   message = λ g s tab. table-law tab _ (message-few g s);
-  index = λ s tab. table-law tab _ (index-few s);
+  index = λ g s tab. table-law tab _ (index-few g s);
 }
 
 -- ---- the index alone
 
-abbrev any-unknown : Settings
-any-unknown = record { discard = true }
-
-always : (k : Kind) (body : List ℕ) → permitted any-unknown k body ≡ true
+always : (g : Settings) (k : Kind) (body : List ℕ) → permitted (undecided g) k body ≡ true
 unfolding permitted
-always configuration body = refl
-always load-balancing body = refl
-always (address family role) body = refl
-always unknown body = refl
+always g configuration body = refl
+always g load-balancing body = refl
+always g (address family role) body = refl
+always g unknown body = refl
 
-all-always : (fs : List Frame) → All (λ f. permitted any-unknown (kind-of (f .type)) (f .body) ≡ true) fs
-all-always [] = tt
-all-always (f ∷ fs) = (always (kind-of (f .type)) (f .body), all-always fs)
+all-always : (g : Settings) (fs : List Frame) → All (λ f. permitted (undecided g) (kind-of (f .type)) (f .body) ≡ true) fs
+all-always g [] = tt
+all-always g (f ∷ fs) = (always g (kind-of (f .type)) (f .body), all-always g fs)
+
+-- how what an option holds is judged does not hang on the discard setting
+undecided-content : (g : Settings) (k : Kind) (body : List ℕ) → judge-content (undecided g) k body ≡ judge-content g k body
+unfolding judge-content
+undecided-content g configuration body = refl
+undecided-content g load-balancing body = refl
+undecided-content g (address family role) body = refl
+undecided-content g unknown body = refl
+
+undecided-all : (g : Settings) (s : List ℕ) → all-options (undecided g) s ≡ all-options g s
+undecided-all g s = all-judged-alike (undecided g) g s (undecided-content g)
 
 -- the options read with the discard setting on are all options
-pub index-reads : (s : List ℕ) → read-options any-unknown s ≡ all-options s
+pub index-reads : (g : Settings) (s : List ℕ) → read-options (undecided g) s ≡ all-options g s
 unfolding read-options _>>=_
-index-reads s = go (all-options s) refl
+index-reads g s = go (all-options (undecided g) s) ∙ undecided-all g s
   where
-    go : (a : Answer (List Frame)) → all-options s ≡ a → (a >>= λ fs. each-from size (permit any-unknown) 0 fs >> accepted fs) ≡ a
-    go (accepted fs) e = then-pass _ _ (permits-all any-unknown fs .1 (all-always fs))
-    go (refused r) e = refl
+    go : (a : Answer (List Frame)) → (a >>= λ fs. each-from size (permit (undecided g)) 0 fs >> accepted fs) ≡ a
+    go (accepted fs) = then-pass _ _ (permits-all (undecided g) fs .1 (all-always g fs))
+    go (refused r) = refl
 
 -- what is laid out is read
-module _ (s : List ℕ) (os : List Opt) (h : IndexLaidOut s os) where
-  laid-read : all-options s ≡ accepted (map wire os)
-  laid-read = read-parts any-unknown s (map wire os) .0 (rw (← (h .2)) (options-lay any-unknown os (h .1))) .0
+module _ (g : Settings) (s : List ℕ) (os : List Opt) (h : IndexLaidOut g s os) where
+  laid-read : all-options g s ≡ accepted (map wire os)
+  laid-read = sym (index-reads g s) ∙ rw (← (h .2)) (options-lay (undecided g) os (h .1))
 
-  pub index-laid : read-index s ≡ accepted (map wire os)
+  pub index-laid : read-index g s ≡ accepted (map wire os)
   unfolding read-index
   index-laid = when-pass _ _ _ (le-ltb 1388 (length s) (h .0)) ∙ laid-read
 
-  index-looked-up : (tab : List ℕ) → slots ≤ length tab → (k : ℕ) → look-up s (table-after tab (read-index s)) (length os) k ≡ given wire (counted os k)
+  index-looked-up : (tab : List ℕ) → slots ≤ length tab → (k : ℕ) → look-up s (table-after tab (read-index g s)) (length os) k ≡ given wire (counted os k)
   index-looked-up tab long k =
       (λ i. look-up s (table-after tab (index-laid i)) (sym (length-map os wire) i) k)
-      ∙ looked-up s (map wire os) laid-read (h .0) tab long k ∙ counted-map wire os k
+      ∙ looked-up g s (map wire os) laid-read (h .0) tab long k ∙ counted-map wire os k
 
-pub index-exact : (s : List ℕ) → Bytes s → IndexExact s
+pub index-exact : (g : Settings) (s : List ℕ) → Bytes s → IndexExact g s
 unfolding read-index given refuse_when_else_
-index-exact s b =
+index-exact g s b =
     record {
       handed = λ os. (
         (λ e.
             let (fs, read, own) = given-accepted (map fields) _ os e in
             let (long, all-read) = when-accepted _ _ _ _ read in
-            let (fits, laid, back) = options-read any-unknown s b fs (read-parts any-unknown s fs .1 (all-read, all-always fs)) in
-            subst (λ (l : List Opt). (length s ≤ 1388) × All (OptionFits any-unknown) l × (lay-options l ≡ s)) own (ltb-false 1388 (length s) long, fits, laid)),
-        (λ h. ap (given (map fields)) (index-laid s os h) ∙ ap accepted (options-own any-unknown os (h .1))),
+            let (fits, laid, back) = options-read (undecided g) s b fs (index-reads g s ∙ all-read) in
+            subst (λ (l : List Opt). (length s ≤ 1388) × All (OptionFits (undecided g)) l × (lay-options l ≡ s)) own (ltb-false 1388 (length s) long, fits, laid)),
+        (λ h. ap (given (map fields)) (index-laid g s os h) ∙ ap accepted (options-own (undecided g) os (h .1))),
       );
-      looked-up = index-looked-up s;
+      looked-up = index-looked-up g s;
     }
 
 -- ---- the message

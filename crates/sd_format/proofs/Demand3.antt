@@ -15,9 +15,9 @@ use Rattle.sd_format.specs.Fields.{fields}
 use Rattle.sd_format.specs.Entries.{sixteen, read-entry, placed-entry, read-entries, next-entry}
 use Rattle.sd_format.specs.Layout.{Payload, wire}
 use Rattle.sd_format.specs.Payload.{entries-part, options-part, Reading, read-payload, frames-of, shown, handed-out}
-use Rattle.sd_format.specs.Demand3.{LaidOut, table-left, Demand3, CursorsAgree}
+use Rattle.sd_format.specs.Demand3.{LaidOut, table-left, Demand3, NoStricter, CursorsAgree}
 use Rattle.sd_format.proofs.SequenceLaws.{counted-map, cursor-hands}
-use Rattle.sd_format.proofs.OptionLaws.{placed-plain, placed-within, read-parts, options-read, looked-up, run-hands}
+use Rattle.sd_format.proofs.OptionLaws.{no-stricter, placed-plain, placed-within, read-parts, options-read, looked-up, run-hands}
 use Rattle.sd_format.proofs.EntryLaws.{entry-plain, entry-long}
 use Rattle.sd_format.proofs.PayloadLaws.{lay-handed, ReadSays, read-says, read-lay, options-part-length, bytes-options}
 
@@ -35,7 +35,7 @@ module _ (g : Settings) (s : List ℕ) (b : Bytes s) where
     says : ReadSays g s r
     says = read-says g s r e
 
-    all-read : all-options (options-part s) ≡ accepted (r .frames)
+    all-read : all-options g (options-part s) ≡ accepted (r .frames)
     all-read = read-parts g _ (r .frames) .0 (says .frames-read) .0
 
     short : length (options-part s) ≤ 1388
@@ -53,7 +53,7 @@ module _ (g : Settings) (s : List ℕ) (b : Bytes s) where
     unfolding shown
     found tab long k =
         rw (left tab, length-map (r .frames) fields)
-        (looked-up (options-part s) (r .frames) all-read short tab long k
+        (looked-up g (options-part s) (r .frames) all-read short tab long k
         ∙ ap (λ (fs : List Frame). counted fs k) (sym wires) ∙ counted-map wire (map fields (r .frames)) k)
 
     entries-handed : HandsOut (next-entry (entries-part s)) (behind sixteen) 0 (r .entries)
@@ -62,18 +62,20 @@ module _ (g : Settings) (s : List ℕ) (b : Bytes s) where
         cursor-hands (placed-entry (length (r .frames))) sixteen 16 (omega arith) (λ t x h. (omega arith, entry-long _ t x h))
         read-entry (entry-plain _) (entries-part s) 0 (r .entries) (says .entries-read)
 
-    options-handed : HandsOut (next-option (options-part s)) (behind size) 0 (r .frames)
+    options-handed : (h : Settings) → NoStricter h g → HandsOut (next-option h (options-part s)) (behind size) 0 (r .frames)
     unfolding all-options
-    options-handed = cursor-hands (placed-option _) size 4 (omega arith) (placed-within _) read-option (λ t f h. placed-plain _ t f .0 h) (options-part s) 0 (r .frames) all-read
+    options-handed h less =
+        cursor-hands (placed-option g _) size 4 (omega arith) (placed-within g _) (read-option h) (λ t f e. no-stricter h g less t f (placed-plain g _ t f .0 e))
+        (options-part s) 0 (r .frames) all-read
 
     cursors-of : CursorsAgree g s (shown r)
     unfolding shown
     cursors-of =
         record {
           entries = entries-handed;
-          options = rw wires options-handed;
+          options = λ h less. rw wires (options-handed h less);
           runs = λ tab long start count.
-              rw (left tab, length-map (r .frames) fields, wires) (run-hands (options-part s) (r .frames) all-read short tab long start count);
+              rw (left tab, length-map (r .frames) fields, wires) (run-hands g (options-part s) (r .frames) all-read short tab long start count);
         }
 
   -- ---- the statements

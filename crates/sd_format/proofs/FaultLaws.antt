@@ -1,13 +1,14 @@
 -- Where a refusal of the options stands: in a string, in one option, among all; and that no other refusal tells a place. Assumes nothing.
 use mathlib.Core.Path.{_≡_, refl, sym, ap, _∙_, subst}
-use mathlib.Core.Bool.{false, not}
+use mathlib.Core.Bool.{Bool, true, false, not}
 use mathlib.Core.Logic.{_≢_, _⊎_, inl, inr, ⊎-elim}
 use mathlib.Core.List.{List, [], _∷_, _++_, append-assoc, map}
 use Prim.Native.Nat.{ℕ, suc, _+_, _-_, _≤_, _<_}
 use native.Mathlib.Omega.{arith}
 use lib.ListN.{length, take, drop, getD, length-drop, take-append-drop}
 use lib.Seq.{take-add, drop-drop, length-take-le, getD-append-add}
-use borrow.Author.Tests.{le-ltb}
+use lib.Dec.{eqb}
+use borrow.Author.Tests.{le-ltb, eqb-true, eqb-false}
 use Rattle.numbers.specs.Refusals.{Refusal, refusal, _at-byte_, untold, told, moved-place, moved, unknown-option}
 use Rattle.numbers.specs.Answers.{accepted, refused, _>>=_, _>>_, refuse_when_else_, further, All}
 use Rattle.numbers.specs.Rules.{Rules, accept, _if_else_, part_else_, Refuses}
@@ -16,24 +17,26 @@ use Rattle.numbers.proofs.AnswerLaws.{moved-there, when-hit, when-pass, not-ref
 use Rattle.numbers.proofs.ByteLaws.{bytes-left, bytes-right, bytes-take}
 use Rattle.sd_format.specs.Settings.{Settings}
 use Rattle.sd_format.specs.Sequences.{all, total, Stops, this-part, later-part, FirstRefused}
-use Rattle.sd_format.specs.Options.{First, Opt, configuring, balancing, addressed, unrecognised, has}
+use Rattle.sd_format.specs.Options.{Family, Role, First, Opt, configuring, balancing, addressed, unrecognised, has}
 use Rattle.sd_format.specs.Strings.{key-of}
-use Rattle.sd_format.specs.Kinds.{Row, kind-of, scanned}
+use Rattle.sd_format.specs.Kinds.{Row, kind-of, judge-content}
 use Rattle.sd_format.specs.Frames.{Frame, size, read-option, placed-option, permitted, permit, all-options, read-options, read-index}
 use Rattle.sd_format.specs.Fields.{first, fields, fields-of}
 use Rattle.sd_format.specs.Entries.{sixteen, placed-entry}
-use Rattle.sd_format.specs.Layout.{GoodItem, lay-items, lay-all, lay-first, lay-option, lay-options, wire, Unknown, OptionFits}
+use Rattle.sd_format.specs.Layout.{GoodItem, lay-items, lay-all, lay-first, lay-type, lay-length as kind-length, address-length, lay-option, lay-options, wire, Unknown, OptionFits}
 use Rattle.sd_format.specs.Payload.{options-part, read-payload, read-message}
-use Rattle.sd_format.specs.Rules.{key-rules, item-rules, StringRefused, unterminated, trailing, this-item, later-item, Scanned, placed-rules, size-rules, header-rules}
+use Rattle.sd_format.specs.Rules.{key-rules, item-rules, StringRefused, unterminated, trailing, this-item, later-item, OtherLength, WrongProtocol, Scanned, placed-rules, size-rules, header-rules}
+use Rattle.sd_format.specs.Demand3.{undecided}
 use Rattle.sd_format.specs.Faults as faults
-use Rattle.sd_format.specs.Faults.{StringFault, StringStopped, OneRefused, by-length, by-zero, by-string, undecided, Stopped, NotPermitted, PlaceIsThePlace}
+use Rattle.sd_format.specs.Faults.{StringFault, StringStopped, OneRefused, by-length, by-zero, by-string, by-protocol, Stopped, NotPermitted, PlaceIsThePlace}
 use Rattle.sd_format.proofs.SequenceLaws.{stopped-at, all-refuses, each-refused, lay-append, lay-length}
 use Rattle.sd_format.proofs.StringLaws.{item-passes}
 use Rattle.sd_format.proofs.StringRules.{item-follows, string-refused}
 use Rattle.sd_format.proofs.FrameLaws.{lay-frame, length-frame, Sound}
+use Rattle.sd_format.proofs.FieldLaws.{widths, lengths}
 use Rattle.sd_format.proofs.OptionLaws.{all-frames, placed-lay, placed-back, Permitted, permit-passes, read-parts, options-lay, options-read}
 use Rattle.sd_format.proofs.CallLaws.{index-reads}
-use Rattle.sd_format.proofs.RuleLaws.{read-option-follows, permit-follows, stops-at, entries-stop, placed-follows, sizes-follow, header-follows}
+use Rattle.sd_format.proofs.RuleLaws.{fixed-address, read-option-follows, permit-follows, stops-at, entries-stop, placed-follows, sizes-follow, header-follows}
 use Rattle.sd_format.proofs.BitLaws.{has-num, first-back}
 use Rattle.sd_format.proofs.KindLaws.{row-unknown}
 
@@ -100,58 +103,75 @@ string-stopped s r e =
 
 -- ---- in one option
 
-abbrev One : List ℕ → Refusal → Type 0
-One s r = (p : ℕ) × OneRefused s r p × (r .place ≡ told p) × (p ≤ length s)
+-- where no length but its kind's is left, an option with an address has that
+own-length : {type : ℕ} (had : ℕ) (family : Family) (role : Role) → type ≡ lay-type family role → ((q : Refusal) → ¬ OtherLength type had q) → had ≡ kind-length family
+own-length {type} had family role t own = go (eqb had (kind-length family)) refl
+  where
+    go : (b : Bool) → eqb had (kind-length family) ≡ b → had ≡ kind-length family
+    go true e = eqb-true _ _ e
+    go false e = absurd (own _ (record { needed = kind-length family; fixed = rw t (fixed-address family role); other = eqb-false _ _ e; says = refl }))
 
--- at its first byte
-first-byte : (s : List ℕ) (q r : Refusal) → OneRefused s q 0 → q .place ≡ told 0 → q ≡ r → One s r
-first-byte s q r which there same = subst (One s) same (0, which, there, omega arith)
+module _ (g : Settings) (s : List ℕ) where
+  abbrev One : Refusal → Type 0
+  One r = (p : ℕ) × OneRefused g s r p × (r .place ≡ told p) × (p ≤ length s)
 
-in-string : (s : List ℕ) (r : Refusal) → (length s < 3 → ⊥) → (at16 s 0 ≡ 0 → ⊥) → (length s < 3 + at16 s 0 → ⊥)
-    → (getD s 2 0 ≡ 0x01) × Scanned (drop 1 (take (at16 s 0) (drop 3 s))) r → One s r
-in-string s r long some whole (type, scans) =
-    let (q, stops, there) = scans in
-    let w = string-stopped _ q stops in
-    let body : length (take (at16 s 0) (drop 3 s)) ≡ at16 s 0 = length-take-le (at16 s 0) (drop 3 s) (rw length-drop (omega arith)) in
-    let low : w .place ≤ at16 s 0 - 1 = rw (length-drop, body) at (w .within) in
-    subst (One s) there (4 + w .place, by-string q type w, ap (moved-place 4) (w .told-there), omega arith)
+  -- at its first byte
+  first-byte : (q r : Refusal) → OneRefused g s q 0 → q .place ≡ told 0 → q ≡ r → One r
+  first-byte q r which there same = subst One same (0, which, there, omega arith)
 
-one-refused : (s : List ℕ) (r : Refusal) → read-option s ≡ refused r → One s r
-one-refused s r e =
-    ⊎-elim (λ short. first-byte s _ r (by-length _ _ _) refl (short .1))
-    (λ (long, w1). ⊎-elim (λ zero-length. first-byte s _ r by-zero refl (zero-length .1))
-    (λ (some, w2). ⊎-elim (λ cut. first-byte s _ r (by-length _ _ _) refl (cut .1))
-    (λ (whole, w3). ⊎-elim (λ other. first-byte s _ r (by-length _ _ _) refl (other .says))
-    (λ (own, w4). ⊎-elim (in-string s r long some whole) (λ none. absurd (none .1)) w4) w3) w2) w1)
-    (read-option-follows s .refuses r .0 e)
+  module _ (r : Refusal) (long : length s < 3 → ⊥) (some : at16 s 0 ≡ 0 → ⊥) (whole : length s < 3 + at16 s 0 → ⊥) where
+    in-string : (getD s 2 0 ≡ 0x01) × Scanned (drop 1 (take (at16 s 0) (drop 3 s))) r → One r
+    in-string (type, scans) =
+        let (q, stops, there) = scans in
+        let w = string-stopped _ q stops in
+        let body : length (take (at16 s 0) (drop 3 s)) ≡ at16 s 0 = length-take-le (at16 s 0) (drop 3 s) (rw length-drop (omega arith)) in
+        let low : w .place ≤ at16 s 0 - 1 = rw (length-drop, body) at (w .within) in
+        subst One there (4 + w .place, by-string q type w, ap (moved-place 4) (w .told-there), omega arith)
 
--- it tells a place, which lies in the bytes or at their end
-pub option-told : (s : List ℕ) (r : Refusal) → read-option s ≡ refused r → (p : ℕ) × (r .place ≡ told p) × (p ≤ length s)
-option-told s r e = let (p, which, there, low) = one-refused s r e in (p, there, low)
+    -- its length is its kind's, and with it the protocol is one of its bytes
+    at-protocol : ((q : Refusal) → ¬ OtherLength (getD s 2 0) (at16 s 0) q) → WrongProtocol g s r → One r
+    at-protocol own w =
+        let byte : ℕ = 5 + address-length (w .family) in
+        let low : byte ≤ length s = omega (arith, widths (w .family), lengths (w .family), own-length (at16 s 0) (w .family) (w .role) (w .type) own) in
+        subst One (w .says) (byte, by-protocol (w .family) (w .role) byte (w .strict) (w .type) refl (w .misfit), refl, low)
 
--- what is said of one is at its place
-one-there : (s : List ℕ) (r : Refusal) (p : ℕ) → OneRefused s r p → r .place ≡ told p
-one-there s _ _ (by-length needed had source) = refl
-one-there s _ _ by-zero = refl
-one-there s _ _ (by-string r type w) = ap (moved-place 4) (w .told-there)
+  one-refused : (r : Refusal) → read-option g s ≡ refused r → One r
+  one-refused r e =
+      ⊎-elim (λ short. first-byte _ r (by-length _ _ _) refl (short .1))
+      (λ (long, w1). ⊎-elim (λ zero-length. first-byte _ r by-zero refl (zero-length .1))
+      (λ (some, w2). ⊎-elim (λ cut. first-byte _ r (by-length _ _ _) refl (cut .1))
+      (λ (whole, w3). ⊎-elim (λ other. first-byte _ r (by-length _ _ _) refl (other .says))
+      (λ (own, w4). ⊎-elim (⊎-elim (in-string r long some whole) (at-protocol r long some whole own)) (λ none. absurd (none .1)) w4) w3) w2) w1)
+      (read-option-follows g s .refuses r .0 e)
+
+  -- it tells a place, which lies in the bytes or at their end
+  pub option-told : (r : Refusal) → read-option g s ≡ refused r → (p : ℕ) × (r .place ≡ told p) × (p ≤ length s)
+  option-told r e = let (p, which, there, low) = one-refused r e in (p, there, low)
+
+  -- what is said of one is at its place
+  one-there : (r : Refusal) (p : ℕ) → OneRefused g s r p → r .place ≡ told p
+  one-there _ _ (by-length needed had source) = refl
+  one-there _ _ by-zero = refl
+  one-there _ _ (by-string r type w) = ap (moved-place 4) (w .told-there)
+  one-there _ _ (by-protocol family role byte on type is misfit) = refl
 
 -- ---- among all
 
 -- sound options that are laid out, by their fields
-front-fits : (t : List ℕ) → Bytes t → (fs : List Frame) → All (Sound scanned) fs × (lay-all lay-frame fs ≡ t)
-    → All (OptionFits undecided) (map fields fs) × (lay-options (map fields fs) ≡ t)
-front-fits t b fs w =
-    let (fits, laid, back) = options-read undecided t b fs (index-reads t ∙ all-frames t b fs .1 w) in
+front-fits : (g : Settings) (t : List ℕ) → Bytes t → (fs : List Frame) → All (Sound (judge-content g)) fs × (lay-all lay-frame fs ≡ t)
+    → All (OptionFits (undecided g)) (map fields fs) × (lay-options (map fields fs) ≡ t)
+front-fits g t b fs w =
+    let (fits, laid, back) = options-read (undecided g) t b fs (index-reads g t ∙ all-frames g t b fs .1 w) in
     (fits, laid)
 
-stopped : (s : List ℕ) → Bytes s → (r : Refusal) → all-options s ≡ refused r → Stopped s r
+stopped : (g : Settings) (s : List ℕ) → Bytes s → (r : Refusal) → all-options g s ≡ refused r → Stopped g s r
 unfolding placed-option
-stopped s b r e =
+stopped g s b r e =
     let (fs, start, laid, more, stop) =
-    stopped-at (placed-option (length s)) size lay-frame (Sound scanned) (placed-lay _) (placed-back _) (λ f w. length-frame f) (λ f w. omega arith) b (stops-at s r .0 e) in
+    stopped-at (placed-option g (length s)) size lay-frame (Sound (judge-content g)) (placed-lay g _) (placed-back g _) (λ f w. length-frame f) (λ f w. omega arith) b (stops-at g s r .0 e) in
     let (alone, reads, same) = further-refused _ _ r stop in
-    let (p, which, there, low) = one-refused _ alone reads in
-    let (fits, lays) = front-fits (take start s) (bytes-take s start b) fs laid in
+    let (p, which, there, low) = one-refused g _ alone reads in
+    let (fits, lays) = front-fits g (take start s) (bytes-take s start b) fs laid in
     let far : length s - length (drop start s) ≡ start = rw length-drop (omega arith) in
     record {
       before = map fields fs;
@@ -167,19 +187,19 @@ stopped s b r e =
       there = sym same ∙ ap (λ (n : ℕ). moved n alone) far ∙ moved-there alone start p there;
     }
 
-stopped-back : (s : List ℕ) → Bytes s → (r : Refusal) → Stopped s r → all-options s ≡ refused r
+stopped-back : (g : Settings) (s : List ℕ) → Bytes s → (r : Refusal) → Stopped g s r → all-options g s ≡ refused r
 unfolding all-options placed-option further
-stopped-back s b r w =
+stopped-back g s b r w =
     let t : List ℕ = take (w .start) s in
-    let front : all-options t ≡ accepted (map wire (w .before)) = sym (index-reads t) ∙ ap (read-options undecided) (sym (w .laid)) ∙ options-lay undecided (w .before) (w .fit) in
-    let (sound, laid) = all-frames t (bytes-take s (w .start) b) (map wire (w .before)) .0 front in
+    let front : all-options g t ≡ accepted (map wire (w .before)) = sym (index-reads g t) ∙ ap (read-options (undecided g)) (sym (w .laid)) ∙ options-lay (undecided g) (w .before) (w .fit) in
+    let (sound, laid) = all-frames g t (bytes-take s (w .start) b) (map wire (w .before)) .0 front in
     let far : length s - length (drop (w .start) s) ≡ w .start = rw length-drop (omega (arith, w .more)) in
-    let stop : placed-option (length s) (drop (w .start) s) ≡ refused r =
+    let stop : placed-option g (length s) (drop (w .start) s) ≡ refused r =
     ap (further (length s - length (drop (w .start) s))) (w .reads)
     ∙ ap (λ (n : ℕ). refused (moved n (w .alone))) far
-    ∙ ap refused (moved-there (w .alone) (w .start) (w .place) (one-there _ _ _ (w .which)) ∙ sym (w .there)) in
-    ap (all (placed-option (length s)) size) (sym (ap (λ (l : List ℕ). l ++ drop (w .start) s) laid ∙ take-append-drop (w .start) s))
-    ∙ all-refuses (placed-option (length s)) size lay-frame (Sound scanned) (placed-lay _) (placed-back _) (λ f v. length-frame f) (λ f v. omega arith)
+    ∙ ap refused (moved-there (w .alone) (w .start) (w .place) (one-there g _ _ _ (w .which)) ∙ sym (w .there)) in
+    ap (all (placed-option g (length s)) size) (sym (ap (λ (l : List ℕ). l ++ drop (w .start) s) laid ∙ take-append-drop (w .start) s))
+    ∙ all-refuses (placed-option g (length s)) size lay-frame (Sound (judge-content g)) (placed-lay g _) (placed-back g _) (λ f v. length-frame f) (λ f v. omega arith)
     (map wire (w .before)) (drop (w .start) s) r sound (rw length-drop (omega (arith, w .more))) stop
 
 -- ---- an option that may not stand
@@ -205,22 +225,22 @@ unfolding lay-option be16
 fourth type b rest l = refl
 
 module _ (g : Settings) where
-  not-permitted : (s : List ℕ) → Bytes s → (fs : List Frame) → all-options s ≡ accepted fs → (r : Refusal) → FirstRefused size (permit g) 0 fs r → NotPermitted g s r
+  not-permitted : (s : List ℕ) → Bytes s → (fs : List Frame) → all-options g s ≡ accepted fs → (r : Refusal) → FirstRefused size (permit g) 0 fs r → NotPermitted g s r
   unfolding lay-all
   not-permitted s b fs read r w =
       let f : Frame = w .one in
       let ((strange, bare, off), ten) = ⊎-elim (λ h. h) (λ none. absurd (none .1)) (permit-follows g f .refuses (w .alone) .0 (w .refused-there)) in
-      let (sound, laid) = all-frames s b fs .0 read in
-      let (sound-front, sound-back) = all-split (Sound scanned) (w .before) (f ∷ w .behind) (subst (All (Sound scanned)) (w .among) sound) in
+      let (sound, laid) = all-frames g s b fs .0 read in
+      let (sound-front, sound-back) = all-split (Sound (judge-content g)) (w .before) (f ∷ w .behind) (subst (All (Sound (judge-content g))) (w .among) sound) in
       let F : List ℕ = lay-all lay-frame (w .before) in
       let B : List ℕ = lay-all lay-frame (f ∷ w .behind) in
       let cut : F ++ B ≡ s = sym (lay-append lay-frame (w .before) (f ∷ w .behind)) ∙ ap (lay-all lay-frame) (sym (w .among)) ∙ laid in
       let bytes-f : Bytes F = bytes-left F B (rw cut b) in
       let bytes-b : Bytes B = bytes-right F B (rw cut b) in
       let may : All (Permitted g) (w .before) = all-map _ _ (λ x. permit-passes g x .0) (w .before) (w .passed) in
-      let (fit, lay-front, _) = options-read g F bytes-f (w .before) (read-parts g F (w .before) .1 (all-frames F bytes-f (w .before) .1 (sound-front, refl), may)) in
+      let (fit, lay-front, _) = options-read g F bytes-f (w .before) (read-parts g F (w .before) .1 (all-frames g F bytes-f (w .before) .1 (sound-front, refl), may)) in
       let o : fields f ≡ unrecognised (f .type) (first (f .body)) (drop 1 (f .body)) = unknown-fields f strange in
-      let (decode, lay-back) = rw o at (front-fits B bytes-b (f ∷ w .behind) (sound-back, refl)) in
+      let (decode, lay-back) = rw o at (front-fits g B bytes-b (f ∷ w .behind) (sound-back, refl)) in
       let far : 0 + total size (w .before) + 3 ≡ length (lay-options (map fields (w .before))) + 3 =
       omega (arith, lay-length lay-frame size length-frame (w .before), ap length lay-front) in
       let whole : lay-options (map fields (w .before)) ++ lay-options (unrecognised (f .type) (first (f .body)) (drop 1 (f .body)) ∷ map fields (w .behind)) ≡ s = rw (lay-front, lay-back) cut in
@@ -240,14 +260,14 @@ module _ (g : Settings) where
       }
 
   -- and back
-  undecided-too : (os : List Opt) → All (OptionFits g) os → All (OptionFits undecided) os
+  undecided-too : (os : List Opt) → All (OptionFits g) os → All (OptionFits (undecided g)) os
   undecided-too [] h = tt
   undecided-too (configuring b items ∷ os) h = (h .0, undecided-too os (h .1))
   undecided-too (balancing b priority weight ∷ os) h = (h .0, undecided-too os (h .1))
   undecided-too (addressed family role b a reserved protocol port ∷ os) h = (h .0, undecided-too os (h .1))
   undecided-too (unrecognised type b rest ∷ os) h = ((h .0 .0, h .0 .1, inr refl), undecided-too os (h .1))
 
-  barred : (type : ℕ) (b : First) (rest : List ℕ) → OptionFits undecided (unrecognised type b rest) → b .discardable ≡ false → g .discard ≡ false
+  barred : (type : ℕ) (b : First) (rest : List ℕ) → OptionFits (undecided g) (unrecognised type b rest) → b .discardable ≡ false → g .discard ≡ false
       → permit g (wire (unrecognised type b rest)) ≡ refused (unknown-option type)
   unfolding permit permitted lay-option be16
   barred type b rest h bare off =
@@ -262,11 +282,11 @@ module _ (g : Settings) where
       let u : Opt = unrecognised (w .type) (w .first) (w .rest) in
       let F : List ℕ = lay-options (w .before) in
       let cut : F ++ lay-options (u ∷ w .behind) ≡ s = sym (lay-append lay-option (w .before) (u ∷ w .behind)) ∙ w .laid in
-      let fit : All (OptionFits undecided) (w .before ++ (u ∷ w .behind)) = all-join _ (w .before) _ (undecided-too (w .before) (w .fit)) (w .decode) in
-      let read : all-options s ≡ accepted (map wire (w .before) ++ (wire u ∷ map wire (w .behind))) =
-      sym (index-reads s) ∙ ap (read-options undecided) (sym (w .laid)) ∙ options-lay undecided _ fit ∙ ap accepted (map-join wire (w .before) (u ∷ w .behind)) in
+      let fit : All (OptionFits (undecided g)) (w .before ++ (u ∷ w .behind)) = all-join _ (w .before) _ (undecided-too (w .before) (w .fit)) (w .decode) in
+      let read : all-options g s ≡ accepted (map wire (w .before) ++ (wire u ∷ map wire (w .behind))) =
+      sym (index-reads g s) ∙ ap (read-options (undecided g)) (sym (w .laid)) ∙ options-lay (undecided g) _ fit ∙ ap accepted (map-join wire (w .before) (u ∷ w .behind)) in
       let (front, may) = read-parts g F (map wire (w .before)) .0 (options-lay g (w .before) (w .fit)) in
-      let same = all-frames F (bytes-left F (lay-options (u ∷ w .behind)) (rw cut b)) (map wire (w .before)) .0 front .1 in
+      let same = all-frames g F (bytes-left F (lay-options (u ∷ w .behind)) (rw cut b)) (map wire (w .before)) .0 front .1 in
       let far : 0 + total size (map wire (w .before)) + 3 ≡ length F + 3 =
       omega (arith, lay-length lay-frame size length-frame (map wire (w .before)), ap length same) in
       let first-one : FirstRefused size (permit g) 0 (map wire (w .before) ++ (wire u ∷ map wire (w .behind))) r =
@@ -325,20 +345,20 @@ unfolding read-options read-index _>>=_
 place-is-the-place g s b =
     record {
       string = λ r e. string-stopped s r (string-refused s r .0 e);
-      option = one-refused s;
+      option = one-refused g s;
       options = λ r. (
         (λ e.
             ⊎-elim
-            (λ stop. inl (stopped s b r stop))
+            (λ stop. inl (stopped g s b r stop))
             (λ (fs, read, e1).
             let first-one = ⊎-elim (λ q. q) (λ (_, e2). not-refused r fs (sym e2)) (then-refused _ _ r e1) in
             inr (not-permitted g s b fs read r (each-refused size (permit g) 0 fs r .0 first-one)))
             (bind-stopped _ _ r e)),
-        ⊎-elim (λ w. rw (stopped-back s b r w)) (not-permitted-back g s b r),
+        ⊎-elim (λ w. rw (stopped-back g s b r w)) (not-permitted-back g s b r),
       );
       index = λ r short. (
-        (λ e. stopped s b r (sym (when-pass _ _ _ (le-ltb 1388 (length s) short)) ∙ e)),
-        (λ w. when-pass _ _ _ (le-ltb 1388 (length s) short) ∙ stopped-back s b r w),
+        (λ e. stopped g s b r (sym (when-pass _ _ _ (le-ltb 1388 (length s) short)) ∙ e)),
+        (λ w. when-pass _ _ _ (le-ltb 1388 (length s) short) ∙ stopped-back g s b r w),
       );
       payload = payload-tells g s;
       message = message-tells g s;

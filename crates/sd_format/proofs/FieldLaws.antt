@@ -1,7 +1,7 @@
 -- Options by their kinds' own fields against options as type and bytes: each fits exactly where the other is read, and each gives the other
 -- back. Assumes nothing.
 use mathlib.Core.Path.{_≡_, refl, sym, ap, ap₂, _∙_, subst}
-use mathlib.Core.Bool.{true, _||_, or-true}
+use mathlib.Core.Bool.{Bool, true, false, _||_, or-true, false≢true}
 use mathlib.Core.Logic.{_↔_, inl, inr, ⊎-elim}
 use mathlib.Core.List.{List, [], _∷_, _++_}
 use Prim.Native.Nat.{ℕ, suc, _+_, _*_, _/_, _%_, _≤_, _<_}
@@ -17,29 +17,39 @@ use Rattle.numbers.proofs.AnswerLaws.{not-refused, then-accepted, then-pass, re
 use Rattle.numbers.proofs.TestLaws.{or-cases}
 use Rattle.numbers.proofs.ByteLaws.{be16-at, tab, take-tab}
 use Rattle.sd_format.specs.Settings.{Settings}
-use Rattle.sd_format.specs.Options.{Family, ipv4, ipv6, Role, First, Opt, configuring, balancing, addressed, unrecognised, has}
+use Rattle.sd_format.specs.Options.{Family, ipv4, ipv6, Role, First, Opt, configuring, balancing, addressed, unrecognised, has, width, protocol}
 use Rattle.sd_format.specs.Strings.{read-string}
-use Rattle.sd_format.specs.Kinds.{Row, configuration, load-balancing, address, unknown, exactly, row-of, kind-of, judge-length, judge-text, judge-kind, scanned}
+use Rattle.sd_format.specs.Kinds.{Row, configuration, load-balancing, address, unknown, exactly, row-of, kind-of, judge-length, scanned, judge-protocol, judge-content, judge-kind}
 use Rattle.sd_format.specs.Frames.{Frame, permitted}
-use Rattle.sd_format.specs.Fields.{first, string, width, address-bytes, reserved, protocol, port, items-of, fields-of, fields}
-use Rattle.sd_format.specs.Layout.{lay-items, lay-first, lay-type, lay-length, address-length, lay-option, wire, Unknown, OptionFits}
+use Rattle.sd_format.specs.Fields.{first, string, address-bytes, reserved, port, items-of, fields-of, fields}
+use Rattle.sd_format.specs.Layout.{lay-items, lay-first, lay-type, lay-length, address-length, lay-option, wire, Unknown, ProtocolFits, OptionFits}
 use Rattle.sd_format.proofs.BitLaws.{first-again, first-back}
 use Rattle.sd_format.proofs.StringLaws.{strings-exact}
 use Rattle.sd_format.proofs.FrameLaws.{lay-frame, Sound}
-use Rattle.sd_format.proofs.KindLaws.{row-configuration, row-load-balancing, row-address, row-unknown, type-cases}
+use Rattle.sd_format.proofs.KindLaws.{row-configuration, row-load-balancing, row-address, row-unknown, type-cases, carries}
 
 -- ---- what the judgement of a row says
 
-judged-by : (r : Row) (body : List ℕ) (type : ℕ) → row-of type ≡ r
-    → judge-kind scanned type body ≡ (judge-length (r .len) (length body) >> judge-text scanned (r .kind) body)
+judged-by : (g : Settings) (r : Row) (body : List ℕ) (type : ℕ) → row-of type ≡ r
+    → judge-kind (judge-content g) type body ≡ (judge-length (r .len) (length body) >> judge-content g (r .kind) body)
 unfolding judge-kind
-judged-by r body type e = ap (λ (q : Row). judge-length (q .len) (length body) >> judge-text scanned (q .kind) body) e
+judged-by g r body type e = ap (λ (q : Row). judge-length (q .len) (length body) >> judge-content g (q .kind) body) e
 
 pub exact-length : (n : ℕ) (body : List ℕ) → (judge-length (exactly n) (length body) ≡ pass) ↔ (length body ≡ n)
 unfolding judge-length
 exact-length n body =
     let t = refuse-pass _ (eqb (length body) n) in
     ((λ e. eqb-true _ _ (t .0 e)), (λ h. t .1 (eq-eqb _ _ h)))
+
+-- under the setting the protocol fits
+pub protocol-judged : (strict : Bool) (family : Family) (role : Role) (body : List ℕ)
+    → (judge-protocol strict family role body ≡ pass) ↔ (strict ≡ true → ProtocolFits role (protocol family body))
+unfolding judge-protocol refuse_when_else_
+protocol-judged true family role body =
+    let t = refuse-pass _ _ in
+    let means = carries role (protocol family body) in
+    ((λ e on. means .0 (t .0 e)), (λ h. t .1 (means .1 (h refl))))
+protocol-judged false family role body = ((λ e on. absurd (false≢true on)), (λ h. refl))
 
 passes : (n : ℕ) (a : Answer (List (List ℕ))) → further n (verdict a) ≡ pass → (items : List (List ℕ)) × (a ≡ accepted items)
 unfolding given further
@@ -54,14 +64,14 @@ passing n a items e = rw e
 
 -- what is shown of an option that fits: it is sound, its layout is its frame's, its fields are its own, and it is permitted
 pub record Wired (g : Settings) (o : Opt) : Type 0 where
-  pub sound : Sound scanned (wire o)
+  pub sound : Sound (judge-content g) (wire o)
   pub layout : lay-frame (wire o) ≡ lay-option o
   pub own : fields (wire o) ≡ o
   pub may : permitted g (kind-of (wire o .type)) (wire o .body) ≡ true
 
 -- by the row of its type
 wired-by : (g : Settings) (o : Opt) (r : Row) → row-of (wire o .type) ≡ r → 1 ≤ length (wire o .body)
-    → (judge-length (r .len) (length (wire o .body)) >> judge-text scanned (r .kind) (wire o .body)) ≡ pass
+    → (judge-length (r .len) (length (wire o .body)) >> judge-content g (r .kind) (wire o .body)) ≡ pass
     → lay-frame (wire o) ≡ lay-option o
     → fields-of (r .kind) (wire o .type) (wire o .body) ≡ o
     → permitted g (r .kind) (wire o .body) ≡ true
@@ -69,7 +79,7 @@ wired-by : (g : Settings) (o : Opt) (r : Row) → row-of (wire o .type) ≡ r �
 unfolding fields
 wired-by g o r e long judged layout own may =
     record {
-      sound = record { some-body = long; judged = judged-by r (wire o .body) (wire o .type) e ∙ judged };
+      sound = record { some-body = long; judged = judged-by g r (wire o .body) (wire o .type) e ∙ judged };
       layout = layout;
       own = ap (λ (q : Row). fields-of (q .kind) (wire o .type) (wire o .body)) e ∙ own;
       may = ap (λ (q : Row). permitted g (q .kind) (wire o .body)) e ∙ may;
@@ -86,7 +96,7 @@ same-length n m t e = ap (λ (k : ℕ). be16 k ++ t) e
 
 -- ---- the address and what stands behind it, once over both widths
 
-widths : (family : Family) → address-length family ≡ width family
+pub widths : (family : Family) → address-length family ≡ width family
 widths ipv4 = refl
 widths ipv6 = refl
 
@@ -99,6 +109,10 @@ long-address : (family : Family) (x : ℕ) (a : List ℕ) (r p q : ℕ) → leng
 unfolding be16
 long-address family x a r p q len = rw (lengths family) (simp length-append (omega (arith, widths family)))
 
+protocol-there : (family : Family) (x : ℕ) (a : List ℕ) (r p q : ℕ) → length a ≡ address-length family → protocol family (x ∷ (a ++ (r ∷ p ∷ be16 q))) ≡ p
+protocol-there family x a r p q len =
+    getD-behind x a (r ∷ p ∷ be16 q) (2 + width family) 1 (omega (arith, len ∙ widths family))
+
 own-address : (family : Family) (role : Role) (b : First) (a : List ℕ) (r p q : ℕ) → b .others < 128 → length a ≡ address-length family
     → fields-of (address family role) (lay-type family role) (lay-first b ∷ (a ++ (r ∷ p ∷ be16 q))) ≡ addressed family role b a r p q
 unfolding fields-of at16 be16
@@ -110,7 +124,7 @@ own-address family role b a r p q few len =
     let first-is = first-back b few in
     let address-is = take-at a t (width family) w in
     let reserved-is = getD-behind (lay-first b) a t (1 + width family) 0 (omega arith) in
-    let protocol-is = getD-behind (lay-first b) a t (2 + width family) 1 (omega arith) in
+    let protocol-is = protocol-there family (lay-first b) a r p q len in
     let port-is : at16 (lay-first b ∷ (a ++ t)) (3 + width family) ≡ q = omega arith in
     λ i. addressed family role (first-is i) (address-is i) (reserved-is i) (protocol-is i) (port-is i)
 
@@ -123,7 +137,7 @@ own-balancing b p w few =
     λ i. balancing (first-is i) (priority-is i) (weight-is i)
 
 pub wired : (g : Settings) (o : Opt) → OptionFits g o → Wired g o
-unfolding lay-option lay-frame be16 fields-of permitted judge-length judge-text items-of _>>_ refuse_when_else_
+unfolding lay-option lay-frame be16 fields-of permitted judge-length judge-content items-of _>>_ refuse_when_else_
 wired g (configuring b items) h =
     let read : read-string (lay-items items) ≡ accepted items = strings-exact (lay-items items) .handed items .1 (h .1, refl) in
     wired-by g (configuring b items) _ row-configuration (omega arith) (passing _ _ items read)
@@ -135,7 +149,8 @@ wired g (balancing b p w) h =
 wired g (addressed family role b a r p q) h =
     let long = long-address family (lay-first b) a r p q (h .1) in
     wired-by g (addressed family role b a r p q) _ (row-address family role) (omega arith)
-    (then-pass _ _ (exact-length (lay-length family) (lay-first b ∷ (a ++ (r ∷ p ∷ be16 q))) .1 long))
+    (then-pass _ _ (exact-length (lay-length family) (lay-first b ∷ (a ++ (r ∷ p ∷ be16 q))) .1 long)
+    ∙ protocol-judged (g .strict) family role _ .1 (λ on. rw (protocol-there family (lay-first b) a r p q (h .1)) (h .2 on)))
     (same-length _ _ (lay-type family role ∷ lay-first b ∷ (a ++ (r ∷ p ∷ be16 q))) long)
     (own-address family role b a r p q (h .0) (h .1))
     refl
@@ -192,16 +207,16 @@ module _ (g : Settings) (body : List ℕ) (b : Bytes body) (some : 1 ≤ length 
       let whole = five-again body b n in
       (few-bits body, (λ i. record { type = 0x02; body = whole i }))
 
-  back-address : (family : Family) (role : Role) → length body ≡ lay-length family
+  back-address : (family : Family) (role : Role) → length body ≡ lay-length family → judge-protocol (g .strict) family role body ≡ pass
       → Back g (lay-type family role) body (fields-of (address family role) (lay-type family role) body)
   unfolding lay-option be16 fields-of
-  back-address family role n =
+  back-address family role n j =
       let five : length body ≡ 5 + width family = n ∙ lengths family in
       let wide : length (address-bytes family body) ≡ address-length family =
       length-take-le (width family) (drop 1 body) (rw length-drop (omega arith)) ∙ sym (widths family) in
       let whole : lay-first (first body) ∷ (address-bytes family body ++ (reserved family body ∷ protocol family body ∷ be16 (port family body))) ≡ body =
       rw (address-again (width family) body b five) (whole-body body b some) in
-      ((few-bits body, wide), (λ i. record { type = lay-type family role; body = whole i }))
+      ((few-bits body, wide, protocol-judged (g .strict) family role body .0 j), (λ i. record { type = lay-type family role; body = whole i }))
 
   back-unknown : (type : ℕ) → Unknown type → (g .discard || has (getD body 0 0) 0x80) ≡ true → Back g type body (fields-of unknown type body)
   unfolding lay-option be16 fields-of
@@ -212,20 +227,21 @@ module _ (g : Settings) (body : List ℕ) (b : Bytes body) (some : 1 ≤ length 
   -- what the judgements say under a type
   abbrev Said : ℕ → Row → Type 0
   Said type r =
-      (judge-length (r .len) (length body) >> judge-text scanned (r .kind) body) ≡ pass → permitted g (r .kind) body ≡ true → Back g type body (fields-of (r .kind) type body)
+      (judge-length (r .len) (length body) >> judge-content g (r .kind) body) ≡ pass → permitted g (r .kind) body ≡ true → Back g type body (fields-of (r .kind) type body)
 
   said-at : (type : ℕ) → Said type (row-of type)
-  unfolding permitted judge-length judge-text _>>_
+  unfolding permitted judge-length judge-content _>>_
   said-at type =
       type-cases type
       (λ e. subst (λ (t : ℕ). Said t (row-of t)) (sym e) (subst (Said 0x01) (sym row-configuration) (λ j m. back-configuration j)))
       (λ e. subst (λ (t : ℕ). Said t (row-of t)) (sym e)
       (subst (Said 0x02) (sym row-load-balancing) (λ j m. back-balancing (exact-length 5 body .0 (then-accepted _ _ _ j .0)))))
       (λ family role e. subst (λ (t : ℕ). Said t (row-of t)) (sym e)
-      (subst (Said (lay-type family role)) (sym (row-address family role)) (λ j m. back-address family role (exact-length _ body .0 (then-accepted _ _ _ j .0)))))
+      (subst (Said (lay-type family role)) (sym (row-address family role))
+      (λ j m. let (len, carried) = then-accepted _ _ _ j in back-address family role (exact-length _ body .0 len) carried)))
       (λ u. subst (Said type) (sym (row-unknown type u)) (λ j m. back-unknown type u m))
 
-pub shown : (g : Settings) (f : Frame) → Bytes (f .body) → Sound scanned f → permitted g (kind-of (f .type)) (f .body) ≡ true
+pub shown : (g : Settings) (f : Frame) → Bytes (f .body) → Sound (judge-content g) f → permitted g (kind-of (f .type)) (f .body) ≡ true
     → OptionFits g (fields f) × (wire (fields f) ≡ f)
 unfolding fields judge-kind
 shown g f b w may = said-at g (f .body) b (w .some-body) (f .type) (w .judged) may

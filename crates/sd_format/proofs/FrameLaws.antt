@@ -9,7 +9,7 @@ use borrow.Author.Tests.{ltb-false, eqb-false, le-ltb, ne-eqb}
 use Rattle.numbers.specs.Answers.{accepted, Verdict, pass, refuse_when_else_}
 use Rattle.numbers.specs.Bytes.{Bytes, be16, at16}
 use Rattle.numbers.proofs.AnswerLaws.{when-accepted, accepted-inj, bind-accepted, bind-pass, then-accepted, then-pass}
-use Rattle.sd_format.specs.Kinds.{judge-kind}
+use Rattle.sd_format.specs.Kinds.{Kind, judge-kind}
 use Rattle.sd_format.specs.Frames.{Frame, size, frame, one-option}
 
 -- the layout of an option whose kind is not looked at
@@ -92,30 +92,30 @@ frame-says s f e =
 
 -- ---- with its kind
 
-module _ (text : List ℕ → Verdict) where
+module _ (content : Kind → List ℕ → Verdict) where
   -- an option that may be laid out
   pub record Sound (f : Frame) : Type 0 where
     pub some-body : 1 ≤ length (f .body)
-    pub judged : judge-kind text (f .type) (f .body) ≡ pass
+    pub judged : judge-kind content (f .type) (f .body) ≡ pass
 
-  pub option-lay : (f : Frame) (rest : List ℕ) → Sound f → one-option text (lay-frame f ++ rest) ≡ accepted f
+  pub option-lay : (f : Frame) (rest : List ℕ) → Sound f → one-option content (lay-frame f ++ rest) ≡ accepted f
   unfolding one-option
   option-lay f rest w = bind-pass _ _ f (frame-lay f rest (w .some-body)) ∙ then-pass _ _ (w .judged)
 
-  option-parts : (s : List ℕ) (f : Frame) → one-option text s ≡ accepted f → (frame s ≡ accepted f) × (judge-kind text (f .type) (f .body) ≡ pass)
+  option-parts : (s : List ℕ) (f : Frame) → one-option content s ≡ accepted f → (frame s ≡ accepted f) × (judge-kind content (f .type) (f .body) ≡ pass)
   unfolding one-option
   option-parts s f e =
       let (p, framed, r) = bind-accepted _ _ _ e in
       let (judged, same) = then-accepted _ _ _ r in
-      subst (λ (q : Frame). (frame s ≡ accepted q) × (judge-kind text (q .type) (q .body) ≡ pass)) (accepted-inj p f same) (framed, judged)
+      subst (λ (q : Frame). (frame s ≡ accepted q) × (judge-kind content (q .type) (q .body) ≡ pass)) (accepted-inj p f same) (framed, judged)
 
-  pub option-says : (s : List ℕ) (f : Frame) → one-option text s ≡ accepted f → Sound f × Framed s f
+  pub option-says : (s : List ℕ) (f : Frame) → one-option content s ≡ accepted f → Sound f × Framed s f
   option-says s f e =
       let (framed, judged) = option-parts s f e in
       let w = frame-says s f framed in
       (record { some-body = w .some-body; judged = judged }, w)
 
-  pub option-within : (s : List ℕ) (f : Frame) → one-option text s ≡ accepted f → (4 ≤ size f) × (size f ≤ length s)
+  pub option-within : (s : List ℕ) (f : Frame) → one-option content s ≡ accepted f → (4 ≤ size f) × (size f ≤ length s)
   option-within s f e =
       let w = option-says s f e .1 in
       (omega (arith, w .some-body), w .within)

@@ -1,12 +1,15 @@
--- The table of kinds against the layout's own type codes and lengths. Assumes nothing.
-use mathlib.Core.Path.{_≡_, refl}
-use mathlib.Core.Bool.{Bool, true, false}
-use Prim.Native.Nat.{ℕ}
+-- The table of kinds against the layout's own type codes and lengths, and which protocols a role may carry. Assumes nothing.
+use mathlib.Core.Path.{_≡_, refl, sym, ap, _∙_}
+use mathlib.Core.Bool.{Bool, true, false, _||_, or-true, true≢false}
+use mathlib.Core.Logic.{_↔_, inl, inr, ⊎-elim}
+use Prim.Native.Nat.{ℕ, _≤_}
+use native.Mathlib.Omega.{arith}
 use lib.Dec.{eqb}
-use borrow.Author.Tests.{ne-eqb, eqb-true, eqb-false}
+use borrow.Author.Tests.{eq-eqb, ne-eqb, eqb-true, eqb-false}
+use Rattle.numbers.proofs.TestLaws.{or-cases}
 use Rattle.sd_format.specs.Options.{Family, ipv4, ipv6, Role, endpoint, multicast, sd-endpoint}
-use Rattle.sd_format.specs.Kinds.{row, configuration, load-balancing, address, unknown, exactly, one-or-more, kinds, row-in, row-of}
-use Rattle.sd_format.specs.Layout.{lay-type, lay-length, Unknown}
+use Rattle.sd_format.specs.Kinds.{row, configuration, load-balancing, address, unknown, exactly, one-or-more, kinds, row-in, row-of, may-carry}
+use Rattle.sd_format.specs.Layout.{lay-type, lay-length, Unknown, ProtocolFits}
 
 -- ---- the rows, by what the layout writes
 
@@ -71,3 +74,39 @@ type-cases type conf load addr other =
     not-any n4 n14 n24 n6 n16 n26 ipv6 endpoint = n6
     not-any n4 n14 n24 n6 n16 n26 ipv6 multicast = n16
     not-any n4 n14 n24 n6 n16 n26 ipv6 sd-endpoint = n26
+
+-- no kind with an address has a higher type
+pub high-end : (family : Family) (role : Role) → lay-type family role ≤ 0x26
+high-end ipv4 endpoint = omega arith
+high-end ipv4 multicast = omega arith
+high-end ipv4 sd-endpoint = omega arith
+high-end ipv6 endpoint = omega arith
+high-end ipv6 multicast = omega arith
+high-end ipv6 sd-endpoint = omega arith
+
+-- ---- a role may carry a protocol exactly where the layout says that it fits
+
+is-multicast : Role → Bool
+is-multicast endpoint = false
+is-multicast multicast = true
+is-multicast sd-endpoint = false
+
+either-fits : (role : Role) (p : ℕ) → is-multicast role ≡ false → ((eqb p 0x06 || eqb p 0x11) ≡ true) ↔ ProtocolFits role p
+unfolding is-multicast
+either-fits role p other = (
+  (λ e.
+      record {
+        tcp-or-udp = ⊎-elim (λ t. inl (eqb-true p 0x06 t)) (λ u. inr (eqb-true p 0x11 u)) (or-cases _ _ e);
+        multicast-udp = λ is. absurd (true≢false (sym (ap is-multicast is) ∙ other));
+      }),
+  (λ w. ⊎-elim (λ t. rw (eq-eqb p 0x06 t)) (λ u. rw (eq-eqb p 0x11 u) (or-true (eqb p 0x06))) (w .tcp-or-udp)),
+)
+
+pub carries : (role : Role) (p : ℕ) → (may-carry role p ≡ true) ↔ ProtocolFits role p
+unfolding may-carry is-multicast
+carries endpoint p = either-fits endpoint p refl
+carries multicast p = (
+  (λ e. let udp = eqb-true p 0x11 e in record { tcp-or-udp = inr udp; multicast-udp = λ is. udp }),
+  (λ w. eq-eqb p 0x11 (w .multicast-udp refl)),
+)
+carries sd-endpoint p = either-fits sd-endpoint p refl

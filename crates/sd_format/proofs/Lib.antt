@@ -15,7 +15,9 @@ pub mod Order
 pub mod Bounds
 pub mod Places
 pub mod PlacesTold
+pub mod Protocols
 pub mod StringRules
 pub mod RuleLaws
 pub mod FaultLaws
+pub mod StrictLaws
 pub mod Theorems

@@ -4,7 +4,7 @@ use Rattle.numbers.specs.Answers.{_>>=_, _>>_, refuse_when_else_, further, give
 use Rattle.numbers.specs.Bytes.{be16, be32, at16, at24, at32}
 use Rattle.sd_format.specs.Sequences.{all-from, each-from, next-at}
 use Rattle.sd_format.specs.Strings.{key-of, judge-bytes, all-spaces, judge-key, judge-item, closed, items-from, read-string}
-use Rattle.sd_format.specs.Kinds.{kinds, row-in, row-of, judge-length, judge-text, judge-kind}
+use Rattle.sd_format.specs.Kinds.{kinds, row-in, row-of, judge-length, may-carry, judge-protocol, judge-content, judge-kind}
 use Rattle.sd_format.specs.Frames.{frame, one-option, placed-option, permitted, permit, all-options, read-options, slots, lent, read-index, look-up, next-of-run}
 use Rattle.sd_format.specs.Entries.{head, group, by-type, read-entry, inside, judge-run, judge-runs, placed-entry, read-entries}
 use Rattle.sd_format.specs.Payload.{sizes, entries-length, options-length, entries-part, options-part, read-payload, header, read-message}
@@ -53,7 +53,7 @@ string-in-order = record {
 }
 
 option-in-order : OptionInOrder
-unfolding _>>=_ _>>_ refuse_when_else_ further given at16 closed items-from read-string kinds row-in row-of judge-length judge-text judge-kind frame one-option
+unfolding _>>=_ _>>_ refuse_when_else_ further given at16 closed items-from read-string kinds row-in row-of judge-length may-carry judge-protocol judge-content judge-kind frame one-option
 option-in-order = record {
   7-before-8 = refl;
   7-before-whole-length = refl;
@@ -63,14 +63,29 @@ option-in-order = record {
   whole-length-before-9 = refl;
   source-1 = refl;
   9-alone = refl;
+  8-before-23 = refl;
+  whole-length-before-23 = refl;
+  source-1-before-23 = refl;
 }
 
 options-in-order : OptionsInOrder
-unfolding _>>=_ _>>_ refuse_when_else_ further given at16 all-from each-from closed items-from read-string kinds row-in row-of judge-length judge-text judge-kind frame one-option placed-option permitted permit all-options read-options
-options-in-order = record { first-option = refl; 8-before-10 = refl; 9-before-10 = refl; first-unknown = refl }
+unfolding _>>=_ _>>_ refuse_when_else_ further given at16 all-from each-from closed items-from read-string kinds row-in row-of judge-length may-carry judge-protocol judge-content judge-kind frame one-option placed-option permitted permit all-options read-options
+options-in-order = record {
+  first-option = refl;
+  8-before-10 = refl;
+  9-before-10 = refl;
+  first-unknown = refl;
+  23-before-later-7 = refl;
+  23-before-later-8 = refl;
+  23-before-later-9 = refl;
+  7-before-later-23 = refl;
+  9-before-later-23 = refl;
+  first-protocol = refl;
+  23-before-10 = refl;
+}
 
 entries-in-order : EntriesInOrder
-unfolding _>>=_ _>>_ refuse_when_else_ further given be16 be32 at16 at24 at32 all-from each-from kinds row-in row-of judge-length judge-text judge-kind frame one-option placed-option permitted permit all-options read-options head group by-type read-entry inside judge-run judge-runs placed-entry read-entries sizes entries-length options-length entries-part options-part read-payload
+unfolding _>>=_ _>>_ refuse_when_else_ further given be16 be32 at16 at24 at32 all-from each-from kinds row-in row-of judge-length may-carry judge-protocol judge-content judge-kind frame one-option placed-option permitted permit all-options read-options head group by-type read-entry inside judge-run judge-runs placed-entry read-entries sizes entries-length options-length entries-part options-part read-payload
 entries-in-order = record {
   8-before-11 = refl;
   10-before-11 = refl;
@@ -78,12 +93,15 @@ entries-in-order = record {
   11-before-12 = refl;
   run-1-before-run-2 = refl;
   first-entry = refl;
+  6-before-23 = refl;
+  23-before-11 = refl;
+  23-before-12 = refl;
   1-before-11 = refl;
 }
 
 index-in-order : IndexInOrder
 unfolding refuse_when_else_ slots lent read-index
-index-in-order = record { 22-before-13 = refl; 13-before-8 = refl }
+index-in-order = record { 22-before-13 = refl; 13-before-8 = refl; 13-before-23 = refl }
 
 lookup-in-order : LookupInOrder
 unfolding refuse_when_else_ slots look-up next-of-run next-at

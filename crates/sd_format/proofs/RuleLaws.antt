@@ -3,33 +3,34 @@ use mathlib.Core.Path.{_≡_, refl, sym, ap, _∙_, subst}
 use mathlib.Core.Bool.{Bool, true, false, not, _||_, true≢false, false≢true}
 use mathlib.Core.Logic.{_↔_, _≢_, _⊎_, inl, inr, ⊎-elim}
 use mathlib.Core.List.{List, [], _∷_}
-use Prim.Native.Nat.{ℕ, _+_, _/_, _%_, _<_}
+use Prim.Native.Nat.{ℕ, _+_, _/_, _%_, _≤_, _<_}
 use native.Mathlib.Omega.{arith}
 use lib.ListN.{length, take, drop, getD, length-drop}
-use lib.Seq.{length-take-le}
+use lib.Seq.{length-take-le, getD-take, getD-drop}
 use borrow.Author.Tests.{eqb-false, ne-eqb, not-true}
-use Rattle.numbers.specs.Refusals.{Refusal, refusal, _at-byte_}
-use Rattle.numbers.specs.Answers.{Answer, accepted, refused, Verdict, pass, _>>_, further, verdict}
+use Rattle.numbers.specs.Refusals.{Refusal, refusal, _at-byte_, wrong-protocol}
+use Rattle.numbers.specs.Answers.{Answer, accepted, refused, Verdict, pass, _>>_, refuse_when_else_, further, verdict}
 use Rattle.numbers.specs.Bytes.{at16, at32}
 use Rattle.numbers.specs.Rules.{Rules, accept, _if_else_, part_else_, _then_, Accepts, Follows}
 use Rattle.numbers.proofs.AnswerLaws.{not-refused, accepted-inj, when-accepted, further-refused}
 use Rattle.numbers.proofs.TestLaws.{below, at-most, equal, unequal, lacks}
-use Rattle.numbers.proofs.RuleLaws.{follows-accepted, follows-refused, follows-passed, follows-if, follows-bind, follows-then, follows-part, given-refuses}
+use Rattle.numbers.proofs.RuleLaws.{follows-accepted, follows-refused, follows-passed, follows-if, follows-bind, follows-after, follows-then, follows-part, given-refuses}
 use Rattle.sd_format.specs.Settings.{Settings}
-use Rattle.sd_format.specs.Options.{Family, ipv4, ipv6, Role, endpoint, multicast, sd-endpoint, has}
+use Rattle.sd_format.specs.Options.{Family, ipv4, ipv6, Role, endpoint, multicast, sd-endpoint, has, width, protocol}
 use Rattle.sd_format.specs.Strings.{read-string}
 use Rattle.sd_format.specs.Sequences.{next-at, each-from, Stops, FirstRefused}
-use Rattle.sd_format.specs.Kinds.{Row, Length, exactly, one-or-more, kinds, row-in, row-of, kind-of, judge-length, judge-text, judge-kind, scanned, unscanned}
+use Rattle.sd_format.specs.Kinds.{Kind, Row, Length, exactly, one-or-more, kinds, row-in, row-of, kind-of, judge-length, scanned, judge-protocol, judge-content, unscanned, judge-kind}
 use Rattle.sd_format.specs.Frames.{Frame, size, frame, one-option, read-option, placed-option, permitted, permit, all-options, read-options, slots, lent, read-index, misfit, look-up, Run, next-of-run}
 use Rattle.sd_format.specs.Entries.{Entry, head-of, head, by-type, sixteen, read-entry, judge-run, judge-runs, placed-entry, read-entries}
-use Rattle.sd_format.specs.Layout.{lay-type, lay-length, Unknown, RunFits}
+use Rattle.sd_format.specs.Layout.{lay-type, lay-length, address-length, Unknown, ProtocolFits, RunFits}
 use Rattle.sd_format.specs.Payload.{sizes, entries-length, options-length, entries-part, options-part, read-payload, header, read-message}
-use Rattle.sd_format.specs.Rules.{Fixed, load-balancing, ipv4-endpoint, ipv4-multicast, ipv4-sd-endpoint, ipv6-endpoint, ipv6-multicast, ipv6-sd-endpoint, OtherLength, option-rules, Scanned, Unscanned, permit-rules, options-rules, index-rules, EntryType, entry-rules, placed-rules, size-rules, payload-rules, header-rules, message-rules, lent-rules, look-up-rules, cursor-rules, run-rules}
+use Rattle.sd_format.specs.Rules.{Fixed, load-balancing, ipv4-endpoint, ipv4-multicast, ipv4-sd-endpoint, ipv6-endpoint, ipv6-multicast, ipv6-sd-endpoint, OtherLength, Scanned, WrongContent, Unscanned, option-rules, permit-rules, options-rules, index-rules, EntryType, entry-rules, placed-rules, size-rules, payload-rules, header-rules, message-rules, lent-rules, look-up-rules, cursor-rules, run-rules}
 use Rattle.sd_format.specs.Theorems.{RulesFollowed}
 use Rattle.sd_format.proofs.SequenceLaws.{all-stops, each-refused}
-use Rattle.sd_format.proofs.KindLaws.{row-configuration, row-load-balancing, row-address, row-unknown, type-cases}
+use Rattle.sd_format.proofs.KindLaws.{row-configuration, row-load-balancing, row-address, row-unknown, type-cases, carries}
 use Rattle.sd_format.proofs.StringRules.{string-refused}
 use Rattle.sd_format.proofs.FrameLaws.{frame-is}
+use Rattle.sd_format.proofs.FieldLaws.{exact-length, widths, lengths}
 use Rattle.sd_format.proofs.OptionLaws.{placed-within, read-parts}
 use Rattle.sd_format.proofs.EntryLaws.{run-inside, entry-cases, entry-long}
 
@@ -46,7 +47,7 @@ fixed-row ipv6-endpoint = refl
 fixed-row ipv6-multicast = refl
 fixed-row ipv6-sd-endpoint = refl
 
-fixed-address : (family : Family) (role : Role) → Fixed (lay-type family role) (lay-length family)
+pub fixed-address : (family : Family) (role : Role) → Fixed (lay-type family role) (lay-length family)
 fixed-address ipv4 endpoint = ipv4-endpoint
 fixed-address ipv4 multicast = ipv4-multicast
 fixed-address ipv4 sd-endpoint = ipv4-sd-endpoint
@@ -80,43 +81,6 @@ length-refused type had r = (
   (λ w. ap (λ (l : Length). judge-length l had) (fixed-row (w .fixed)) ∙ exact-follows (w .needed) had .refuses r .1 (inl (w .other, w .says))),
 )
 
--- a kind whose string is not judged, or a configuration
-kind-text : (type : ℕ) → (type ≡ 0x01) ⊎ ((text : List ℕ → Verdict) (body : List ℕ) → judge-text text (kind-of type) body ≡ pass)
-unfolding judge-text
-kind-text type =
-    type-cases type
-    (λ t. inl t)
-    (λ t. inr (λ text body. rw t (ap (λ (q : Row). judge-text text (q .kind) body) row-load-balancing)))
-    (λ family role t. inr (λ text body. rw t (ap (λ (q : Row). judge-text text (q .kind) body) (row-address family role))))
-    (λ u. inr (λ text body. ap (λ (q : Row). judge-text text (q .kind) body) (row-unknown type u)))
-
-module _ (text : List ℕ → Verdict) (Text : List ℕ → Refusal → Type 0) (says : (s : List ℕ) (r : Refusal) → (text s ≡ refused r) ↔ Text s r) where
-  configured : (type : ℕ) (body : List ℕ) → type ≡ 0x01 → judge-text text (kind-of type) body ≡ text (drop 1 body)
-  unfolding judge-text
-  configured type body t = rw t (ap (λ (q : Row). judge-text text (q .kind) body) row-configuration)
-
-  text-refused : (type : ℕ) (body : List ℕ) (r : Refusal) → (judge-text text (kind-of type) body ≡ refused r) ↔ ((type ≡ 0x01) × Text (drop 1 body) r)
-  text-refused type body r = (
-    (λ e. ⊎-elim
-        (λ t. (t, says (drop 1 body) r .0 (sym (configured type body t) ∙ e)))
-        (λ free. not-refused r tt (sym e ∙ free text body))
-        (kind-text type)),
-    (λ w. configured type body (w .0) ∙ says (drop 1 body) r .1 (w .1)),
-  )
-
-  -- behind the frame: its kind's length, then its string
-  abbrev kind-rules : (type had : ℕ) (body : List ℕ) → Rules
-  kind-rules type had body = part (OtherLength type had) else part (λ r. (type ≡ 0x01) × Text (drop 1 body) r) else accept
-
-  kind-follows : (f : Frame) → Follows (judge-kind text (f .type) (f .body) >> accepted f) (kind-rules (f .type) (length (f .body)) (f .body))
-  unfolding judge-kind
-  kind-follows f =
-      follows-then (judge-kind text (f .type) (f .body)) (accepted f) (kind-rules (f .type) (length (f .body)) (f .body)) accept
-      (follows-then _ _ (part (OtherLength (f .type) (length (f .body))) else accept) (part (λ r. (f .type ≡ 0x01) × Text (drop 1 (f .body)) r) else accept)
-      (follows-part _ _ (length-refused (f .type) (length (f .body))))
-      (follows-part _ _ (text-refused (f .type) (f .body))))
-      (follows-accepted f)
-
 abbrev frame-rules : List ℕ → Rules
 frame-rules s =
     refusal 7 (3 ∷ length s ∷ 0 ∷ []) at-byte 0 if length s < 3 else
@@ -132,15 +96,31 @@ frame-follows s =
     (follows-if _ _ (below (length s) (3 + at16 s 0))
     (follows-accepted _)))
 
-module _ (text : List ℕ → Verdict) (Text : List ℕ → Refusal → Type 0) (says : (s : List ℕ) (r : Refusal) → (text s ≡ refused r) ↔ Text s r) where
-  option-follows : (s : List ℕ) → Follows (one-option text s) (option-rules Text s)
+-- `says` is what is refused of a kind whose length was judged
+module _ (content : Kind → List ℕ → Verdict) (Content : List ℕ → Refusal → Type 0)
+    (says : (s : List ℕ) (n : ℕ) → 3 + n ≤ length s → at16 s 0 ≡ n → judge-length (row-of (getD s 2 0) .len) n ≡ pass → (r : Refusal)
+    → (content (kind-of (getD s 2 0)) (take n (drop 3 s)) ≡ refused r) ↔ Content s r) where
+  -- behind the frame: its kind's length, then what it holds
+  abbrev kind-rules : (s : List ℕ) (n : ℕ) → Rules
+  kind-rules s n = part (OtherLength (getD s 2 0) n) else part (Content s) else accept
+
+  kind-follows : (s : List ℕ) (n : ℕ) → 3 + n ≤ length s → at16 s 0 ≡ n → (f : Frame)
+      → Follows (judge-kind content (getD s 2 0) (take n (drop 3 s)) >> accepted f) (kind-rules s n)
+  unfolding judge-kind
+  kind-follows s n long is f =
+      let full : length (take n (drop 3 s)) ≡ n = length-take-le n (drop 3 s) (rw length-drop (omega arith)) in
+      rw full
+      (follows-then _ (accepted f) (kind-rules s n) accept
+      (follows-after _ _ (part (OtherLength (getD s 2 0) n) else accept) (part (Content s) else accept)
+      (follows-part _ _ (length-refused (getD s 2 0) n))
+      (λ fits. follows-part _ _ (says s n long is fits)))
+      (follows-accepted f))
+
+  option-follows : (s : List ℕ) → Follows (one-option content s) (option-rules Content s)
   unfolding one-option
   option-follows s =
-      follows-bind (frame s) _ (frame-rules s) (kind-rules text Text says (getD s 2 0) (at16 s 0) (take (at16 s 0) (drop 3 s))) (frame-follows s)
-      (λ f e.
-      let (pos, long, same) = frame-is s f e in
-      let full : length (take (at16 s 0) (drop 3 s)) ≡ at16 s 0 = length-take-le (at16 s 0) (drop 3 s) (rw length-drop (omega arith)) in
-      rw (← same) (rw full at (kind-follows text Text says (record { type = getD s 2 0; body = take (at16 s 0) (drop 3 s) }))))
+      follows-bind (frame s) _ (frame-rules s) (kind-rules s (at16 s 0)) (frame-follows s)
+      (λ f e. let (pos, long, same) = frame-is s f e in rw (← same) (kind-follows s (at16 s 0) long refl (record { type = getD s 2 0; body = take (at16 s 0) (drop 3 s) })))
 
 -- a string is refused in its option as it is alone, its place counted from the option
 scanned-refused : (t : List ℕ) (r : Refusal) → (scanned t ≡ refused r) ↔ Scanned t r
@@ -150,11 +130,75 @@ scanned-refused t r = (
   (λ (q, stops, there). let refuses : verdict (read-string t) ≡ refused q = given-refuses _ (read-string t) q .1 (string-refused t q .1 stops) in rw refuses (ap refused there)),
 )
 
-pub read-option-follows : (s : List ℕ) → Follows (read-option s) (option-rules Scanned s)
-read-option-follows s = option-follows scanned Scanned scanned-refused s
+-- a protocol is refused where the setting is on and it does not fit
+protocol-refused : (strict : Bool) (family : Family) (role : Role) (body : List ℕ) (r : Refusal) → (judge-protocol strict family role body ≡ refused r)
+    ↔ ((strict ≡ true) × (¬ ProtocolFits role (protocol family body)) × (wrong-protocol (protocol family body) (5 + width family) ≡ r))
+unfolding judge-protocol refuse_when_else_
+protocol-refused true family role body r =
+    let w = follows-if _ _ (lacks _ (carries role (protocol family body))) (follows-accepted tt) .refuses r in
+    ((λ e. ⊎-elim (λ h. (refl, h .0, h .1)) (λ none. absurd (none .1)) (w .0 e)), (λ h. w .1 (inl (h .1, h .2))))
+protocol-refused false family role body r = ((λ e. not-refused r tt (sym e)), (λ h. absurd (false≢true (h .0))))
+
+-- where the protocol stands in an option of its kind's length
+protocol-at : (family : Family) (s : List ℕ) (n : ℕ) → n ≡ lay-length family → protocol family (take n (drop 3 s)) ≡ getD s (5 + address-length family) 0
+protocol-at family s n len =
+    let wide : n ≡ 5 + width family = len ∙ lengths family in
+    let there : 3 + (2 + width family) ≡ 5 + address-length family = omega (arith, widths family) in
+    getD-take n (drop 3 s) (2 + width family) 0 (omega arith) ∙ getD-drop 3 s (2 + width family) 0 ∙ ap (λ (i : ℕ). getD s i 0) there
+
+-- how what a type holds is judged, by its row
+judged-by : (g : Settings) (body : List ℕ) (type : ℕ) (row : Row) → row-of type ≡ row → judge-content g (kind-of type) body ≡ judge-content g (row .kind) body
+judged-by g body type row e = ap (λ (q : Row). judge-content g (q .kind) body) e
+
+module _ (g : Settings) (s : List ℕ) (n : ℕ) (is : at16 s 0 ≡ n) (fits : judge-length (row-of (getD s 2 0) .len) n ≡ pass) (long : 3 + n ≤ length s) where
+  abbrev type : ℕ
+  type = getD s 2 0
+
+  abbrev body : List ℕ
+  body = take n (drop 3 s)
+
+  body-length : length body ≡ n
+  body-length = length-take-le n (drop 3 s) (rw length-drop (omega arith))
+
+  configured : type ≡ 0x01 → judge-content g (kind-of type) body ≡ scanned (drop 1 body)
+  unfolding judge-content
+  configured t = judged-by g body type _ (ap row-of t ∙ row-configuration)
+
+  addressed : (family : Family) (role : Role) → type ≡ lay-type family role → judge-content g (kind-of type) body ≡ judge-protocol (g .strict) family role body
+  unfolding judge-content
+  addressed family role t = judged-by g body type _ (ap row-of t ∙ row-address family role)
+
+  carried : (family : Family) (role : Role) → type ≡ lay-type family role → protocol family body ≡ getD s (5 + address-length family) 0
+  carried family role t =
+      let row : row-of type .len ≡ exactly (lay-length family) = rw t (ap (λ (q : Row). q .len) (row-address family role)) in
+      let exact : judge-length (exactly (lay-length family)) (length body) ≡ pass = rw body-length (sym (ap (λ (l : Length). judge-length l n) row) ∙ fits) in
+      protocol-at family s n (sym body-length ∙ exact-length _ body .0 exact)
+
+  wrong : (family : Family) (role : Role) → type ≡ lay-type family role → (r : Refusal)
+      → (judge-protocol (g .strict) family role body ≡ refused r)
+      ↔ ((g .strict ≡ true) × (¬ ProtocolFits role (getD s (5 + address-length family) 0)) × ((refusal 23 (getD s (5 + address-length family) 0 ∷ []) at-byte 5 + address-length family) ≡ r))
+  wrong family role t r = rw (← (carried family role t), widths family) (protocol-refused (g .strict) family role body r)
+
+  read-option-says : (r : Refusal) → (judge-content g (kind-of type) body ≡ refused r) ↔ WrongContent g s r
+  unfolding judge-content
+  read-option-says r = (
+    (λ e. type-cases type
+        (λ t. inl (t, rw is (scanned-refused _ r .0 (sym (configured t) ∙ e))))
+        (λ t. not-refused r tt (sym e ∙ judged-by g body type _ (ap row-of t ∙ row-load-balancing)))
+        (λ family role t.
+        let (on, misfit, says) = wrong family role t r .0 (sym (addressed family role t) ∙ e) in
+        inr (record { strict = on; family = family; role = role; type = t; misfit = misfit; says = says }))
+        (λ u. not-refused r tt (sym e ∙ judged-by g body type _ (row-unknown type u)))),
+    ⊎-elim
+        (λ (t, w). configured t ∙ scanned-refused _ r .1 (rw is at w))
+        (λ w. addressed (w .family) (w .role) (w .type) ∙ wrong (w .family) (w .role) (w .type) r .1 (w .strict, w .misfit, w .says)),
+  )
+
+pub read-option-follows : (g : Settings) (s : List ℕ) → Follows (read-option g s) (option-rules (WrongContent g) s)
+read-option-follows g s = option-follows (judge-content g) (WrongContent g) (λ t n long is fits. read-option-says g t n is fits long) s
 
 pub unscanned-follows : (s : List ℕ) → Follows (one-option unscanned s) (option-rules Unscanned s)
-unscanned-follows s = option-follows unscanned Unscanned (λ t r. ((λ e. not-refused r tt (sym e)), (λ n. absurd n))) s
+unscanned-follows s = option-follows unscanned Unscanned (λ t n long is fits r. ((λ e. not-refused r tt (sym e)), (λ none. absurd none))) s
 
 -- ---- all options
 
@@ -194,27 +238,27 @@ pub permit-follows : (g : Settings) (f : Frame) → Follows (permit g f) (permit
 unfolding permit
 permit-follows g f = follows-if _ _ (unpermitted g (f .type) (f .body)) (follows-accepted tt)
 
-pub stops-at : (s : List ℕ) (r : Refusal) → (all-options s ≡ refused r) ↔ Stops (placed-option (length s)) size s r
+pub stops-at : (g : Settings) (s : List ℕ) (r : Refusal) → (all-options g s ≡ refused r) ↔ Stops (placed-option g (length s)) size s r
 unfolding all-options
-stops-at s r = all-stops (placed-option (length s)) size 4 (omega arith) (placed-within (length s)) s r
+stops-at g s r = all-stops (placed-option g (length s)) size 4 (omega arith) (placed-within g (length s)) s r
 
 pub options-follow : (g : Settings) (s : List ℕ) → Follows (read-options g s) (options-rules g s)
 unfolding read-options
 options-follow g s =
-    follows-bind (all-options s) _ (part (Stops (placed-option (length s)) size s) else accept)
-    (part (λ r. (fs : List Frame) × (all-options s ≡ accepted fs) × FirstRefused size (permit g) 0 fs r) else accept)
-    (follows-part _ _ (stops-at s))
+    follows-bind (all-options g s) _ (part (Stops (placed-option g (length s)) size s) else accept)
+    (part (λ r. (fs : List Frame) × (all-options g s ≡ accepted fs) × FirstRefused size (permit g) 0 fs r) else accept)
+    (follows-part _ _ (stops-at g s))
     (λ fs e.
-    follows-then (each-from size (permit g) 0 fs) (accepted fs) (part (λ r. (fs : List Frame) × (all-options s ≡ accepted fs) × FirstRefused size (permit g) 0 fs r) else accept) accept
+    follows-then (each-from size (permit g) 0 fs) (accepted fs) (part (λ r. (fs : List Frame) × (all-options g s ≡ accepted fs) × FirstRefused size (permit g) 0 fs r) else accept) accept
     (follows-part _ _ (λ r. (
       (λ h. (fs, e, each-refused size (permit g) 0 fs r .0 h)),
       (λ w. each-refused size (permit g) 0 fs r .1 (subst (λ (l : List Frame). FirstRefused size (permit g) 0 l r) (accepted-inj (w .0) fs (sym (w .1) ∙ e)) (w .2))),
     )))
     (follows-accepted fs))
 
-pub index-follows : (s : List ℕ) → Follows (read-index s) (index-rules s)
+pub index-follows : (g : Settings) (s : List ℕ) → Follows (read-index g s) (index-rules g s)
 unfolding read-index
-index-follows s = follows-if _ _ (below 1388 (length s)) (follows-part _ _ (stops-at s))
+index-follows g s = follows-if _ _ (below 1388 (length s)) (follows-part _ _ (stops-at g s))
 
 -- ---- one entry
 
@@ -315,7 +359,7 @@ payload-follows g s =
     (λ es h. follows-accepted _)))
   where
     Entries : Refusal → Type 0
-    Entries r = (fs : List Frame) × (all-options (options-part s) ≡ accepted fs) × Stops (placed-entry (length fs)) sixteen (entries-part s) r
+    Entries r = (fs : List Frame) × (all-options g (options-part s) ≡ accepted fs) × Stops (placed-entry (length fs)) sixteen (entries-part s) r
 
 pub message-follows : (g : Settings) (s : List ℕ) → Follows (read-message g s) (message-rules g s)
 unfolding read-message
@@ -360,9 +404,9 @@ rules-followed = record {
   placed = placed-follows;
   payload = λ g s tab. lent-follows tab _ _ (payload-follows g s);
   message = λ g s tab. lent-follows tab _ _ (message-follows g s);
-  index = λ s tab. lent-follows tab _ _ (index-follows s);
+  index = λ g s tab. lent-follows tab _ _ (index-follows g s);
   looked-up = look-up-follows;
-  option-cursor = cursor-follows read-option (option-rules Scanned) read-option-follows;
+  option-cursor = λ g. cursor-follows (read-option g) (option-rules (WrongContent g)) (read-option-follows g);
   entry-cursor = cursor-follows read-entry entry-rules entry-follows;
   run-cursor = run-cursor-follows;
 }

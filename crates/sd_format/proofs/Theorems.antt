@@ -7,6 +7,8 @@ use Rattle.sd_format.proofs.RuleLaws.{rules-followed}
 use Rattle.sd_format.proofs.Order.{order}
 use Rattle.sd_format.proofs.FaultLaws.{place-is-the-place}
 use Rattle.sd_format.proofs.PlacesTold.{places-told}
+use Rattle.sd_format.proofs.StrictLaws.{as-before, only-refuses-more}
+use Rattle.sd_format.proofs.Protocols.{protocols}
 use Rattle.sd_format.proofs.Cases.{cases}
 use Rattle.sd_format.proofs.Places.{places}
 use Rattle.sd_format.proofs.Bounds.{bounds}
@@ -23,6 +25,9 @@ theorems = record {
   order = order;
   place-is-the-place = place-is-the-place;
   places-told = places-told;
+  strict-off = as-before;
+  strict-on = only-refuses-more;
+  protocols = protocols;
   tables-left = tables-left;
   cases = cases;
   places = places;

@@ -12,7 +12,7 @@ use Rattle.sd_format.specs.Frames.{read-options, lent, table-after, read
 use Rattle.sd_format.specs.Entries.{Entry, offer, head-of, next-entry}
 use Rattle.sd_format.specs.Payload.{handed-out}
 use Rattle.sd_format.specs.Cases.{the-endpoint, payload-of}
-use Rattle.sd_format.specs.Order.{strict, payload, opened, no-entries, kept, no-length, no-terminator}
+use Rattle.sd_format.specs.Order.{plain, payload, opened, no-entries, kept, no-length, no-terminator}
 
 -- n options `00017780`, of four bytes each
 abbrev pub four-byte-options : ℕ → List ℕ
@@ -49,7 +49,7 @@ pub record Bounds : Type 0 where
   pub eleven-bytes : payload (replicate 11 0) gives 1 with (12 ∷ [])
   pub no-entry-there : payload (opened 16 ++ be32 0) gives 1 with (28 ∷ [])
   pub too-long : payload (opened 16 ++ (replicate 16 0 ++ be32 1388)) gives 5 with (1416 ∷ [])
-  pub zero-count : handed-out strict no-run ≡ accepted (payload-of true (offer-without-run ∷ []) (the-endpoint ∷ []))
+  pub zero-count : handed-out plain no-run ≡ accepted (payload-of true (offer-without-run ∷ []) (the-endpoint ∷ []))
   pub all-slots : given (λ r. length (r .frames)) (payload (no-entries 1388 ++ four-byte-options 347)) ≡ accepted 347
   -- both sides of 1, 2, 4 and 5, each where no other rule would give the same
   pub eleven : payload (opened 1389 ++ (0 ∷ 0 ∷ 0 ∷ [])) gives 1 with (12 ∷ [])
@@ -66,7 +66,7 @@ pub record Bounds : Type 0 where
   pub run-to-the-end : given (λ r. length (r .entries)) (payload (opened 16 ++ (runs 0 1 0x11 ++ (be32 8 ++ four-byte-options 2)))) ≡ accepted 1
   pub run-past-the-end : payload (opened 16 ++ (runs 0 1 0x12 ++ (be32 8 ++ four-byte-options 2))) gives 12 with (2 ∷ 1 ∷ 2 ∷ 2 ∷ [])
   -- the known kinds are permitted without the discardable bit
-  pub known-permitted : given length (read-options strict (configured ++ (balanced ++ addressed))) ≡ accepted 3
+  pub known-permitted : given length (read-options plain (configured ++ (balanced ++ addressed))) ≡ accepted 3
   -- strings
   pub trailing : read-string (0x00 ∷ 0x00 ∷ []) gives 9 with (3 ∷ 0 ∷ 0 ∷ [])
   pub spaces : read-string (0x01 ∷ 0x20 ∷ 0x00 ∷ []) gives 9 with (6 ∷ 0 ∷ 0 ∷ [])
@@ -81,18 +81,18 @@ pub record Bounds : Type 0 where
   pub no-option : look-up (kept 0x77) (1 ∷ []) 1 0 gives 21 with []
   pub past-the-bytes : look-up (kept 0x77) (5 ∷ []) 1 0 gives 21 with []
   -- the cursors: what they hand out, and where they stand then
-  pub option-at-4 : given (λ f. f .type) (next-option (kept 0x77 ++ kept 0x78) 4) ≡ accepted 0x78
-  pub option-at-the-end : next-option (kept 0x77) 4 gives 20 with []
+  pub option-at-4 : given (λ f. f .type) (next-option plain (kept 0x77 ++ kept 0x78) 4) ≡ accepted 0x78
+  pub option-at-the-end : next-option plain (kept 0x77) 4 gives 20 with []
   pub entry-at-16 : given (λ e. head-of e .start1) (next-entry (runs 1 2 0x34 ++ runs 5 6 0x34) 16) ≡ accepted 5
   pub second-of-run : given (λ f. f .type) (next-of-run (kept 0x77 ++ kept 0x78) (0 ∷ 4 ∷ []) 2 (record { next = 1; left = 2 })) ≡ accepted 0x78
   pub run-leaves-the-list : next-of-run (kept 0x77) (0 ∷ []) 1 (record { next = 1; left = 2 }) gives 20 with []
   pub run-goes-on : along (record { type = 0x77; body = 0 ∷ [] }) (record { next = 5; left = 3 }) ≡ record { next = 6; left = 2 }
   -- 347 slots are enough
-  pub enough-slots : lent (replicate 347 9) (read-index []) ≡ accepted []
+  pub enough-slots : lent (replicate 347 9) (read-index plain []) ≡ accepted []
   -- the lent table: nines, of which one stands past the 347; after two options, after a refusal, and with one slot too few
-  pub table-filled : table-after (replicate 348 9) (read-index (kept 0x77 ++ kept 0x78)) ≡ 0 ∷ 4 ∷ (replicate 345 0 ++ (9 ∷ []))
-  pub table-cleared : table-after (replicate 348 9) (read-index no-length) ≡ replicate 347 0 ++ (9 ∷ [])
-  pub table-of-347 : table-after (replicate 347 9) (read-index []) ≡ replicate 347 0
-  pub table-kept : table-after (replicate 346 9) (read-index (kept 0x77)) ≡ replicate 346 9
+  pub table-filled : table-after (replicate 348 9) (read-index plain (kept 0x77 ++ kept 0x78)) ≡ 0 ∷ 4 ∷ (replicate 345 0 ++ (9 ∷ []))
+  pub table-cleared : table-after (replicate 348 9) (read-index plain no-length) ≡ replicate 347 0 ++ (9 ∷ [])
+  pub table-of-347 : table-after (replicate 347 9) (read-index plain []) ≡ replicate 347 0
+  pub table-kept : table-after (replicate 346 9) (read-index plain (kept 0x77)) ≡ replicate 346 9
   -- the string is not scanned again
   pub not-scanned : given (λ f. f .type) (look-up no-terminator (0 ∷ []) 1 0) ≡ accepted 0x01

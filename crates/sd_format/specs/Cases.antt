@@ -22,7 +22,7 @@ pub data Case : Type 0 where
   string : List ℕ → Answer (List (List ℕ)) → Case
 
 abbrev pub discarding : Bool → Settings
-discarding d = record { discard = d }
+discarding d = record { discard = d; strict = false }
 
 -- the case's answer is what the definitions give
 abbrev pub Holds : Case → Type 0

@@ -36,11 +36,16 @@ pub record Demand3 (g : Settings) (s : List ℕ) : Type 0 where
   pub looked-up : (p : Payload) → handed-out g s ≡ accepted p → (tab : List ℕ) → slots ≤ length tab → (k : ℕ)
       → look-up (options-part s) (table-left g s tab) (length (p .options)) k ≡ given wire (counted (p .options) k)
 
+-- the settings `h` ask no more of one option than `g` do
+abbrev pub NoStricter : (h g : Settings) → Type 0
+NoStricter h g = h .strict ≡ true → g .strict ≡ true
+
 -- the cursors, over a payload that was accepted
 pub record CursorsAgree (g : Settings) (s : List ℕ) (p : Payload) : Type 0 where
-  -- the entries and the options that the cursors hand out from the front, one after the other until 20, are that pair
+  -- the entries and the options that the cursors hand out from the front, one after the other until 20, are that pair; the option cursor under
+  -- the same settings, or under others that ask no more
   pub entries : HandsOut (next-entry (entries-part s)) (behind sixteen) 0 (p .entries)
-  pub options : HandsOut (next-option (options-part s)) (behind size) 0 (map wire (p .options))
+  pub options : (h : Settings) → NoStricter h g → HandsOut (next-option h (options-part s)) (behind size) 0 (map wire (p .options))
   -- the run cursor hands out the counted options of its run, as far as the list goes
   pub runs : (tab : List ℕ) → slots ≤ length tab → (start count : ℕ)
       → HandsOut (next-of-run (options-part s) (table-left g s tab) (length (p .options))) along (record { next = start; left = count })
@@ -51,15 +56,19 @@ pub record LentExactly {A : Type 0} (tab : List ℕ) (a : Answer A) : Type 0 whe
   pub short : length tab < 347 → lent tab a ≡ refused (refusal 22 (length tab ∷ []))
   pub enough : 347 ≤ length tab → lent tab a ≡ a
 
--- at most 1,388 bytes that are options laid out, unknown ones whether they may be discarded or not
-abbrev pub IndexLaidOut : List ℕ → List Opt → Type 0
-IndexLaidOut s os = (length s ≤ 1388) × All (OptionFits (record { discard = true })) os × (lay-options os ≡ s)
+-- the same settings, but for unknown options, which are accepted whether they may be discarded or not
+abbrev pub undecided : Settings → Settings
+undecided g = record { discard = true; strict = g .strict }
+
+-- at most 1,388 bytes that are options laid out
+abbrev pub IndexLaidOut : Settings → List ℕ → List Opt → Type 0
+IndexLaidOut g s os = (length s ≤ 1388) × All (OptionFits (undecided g)) os × (lay-options os ≡ s)
 
 -- the index alone: exactly those bytes, and looking up any number in its table gives what counting from the front gives
-pub record IndexExact (s : List ℕ) : Type 0 where
-  pub handed : (os : List Opt) → (given (map fields) (read-index s) ≡ accepted os) ↔ IndexLaidOut s os
-  pub looked-up : (os : List Opt) → IndexLaidOut s os → (tab : List ℕ) → slots ≤ length tab → (k : ℕ)
-      → look-up s (table-after tab (read-index s)) (length os) k ≡ given wire (counted os k)
+pub record IndexExact (g : Settings) (s : List ℕ) : Type 0 where
+  pub handed : (os : List Opt) → (given (map fields) (read-index g s) ≡ accepted os) ↔ IndexLaidOut g s os
+  pub looked-up : (os : List Opt) → IndexLaidOut g s os → (tab : List ℕ) → slots ≤ length tab → (k : ℕ)
+      → look-up s (table-after tab (read-index g s)) (length os) k ≡ given wire (counted os k)
 
 -- a header with a session that is not 0, and `p`, which fits the conditions: their layout is `m`
 abbrev pub MessageLaidOut : Settings → List ℕ → Payload → Type 0

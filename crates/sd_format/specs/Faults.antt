@@ -11,12 +11,13 @@ use Rattle.numbers.specs.Answers.{refused, All}
 use Rattle.numbers.specs.Rules.{Refuses}
 use Rattle.numbers.specs.Bytes.{at16}
 use Rattle.sd_format.specs.Settings.{Settings}
-use Rattle.sd_format.specs.Options.{First, Opt, unrecognised}
+use Rattle.sd_format.specs.Options.{Family, Role, First, Opt, unrecognised}
 use Rattle.sd_format.specs.Strings.{read-string}
 use Rattle.sd_format.specs.Frames.{read-option, read-options, read-index}
-use Rattle.sd_format.specs.Layout.{GoodItem, lay-items, lay-first, lay-options, OptionFits}
+use Rattle.sd_format.specs.Layout.{GoodItem, lay-items, lay-first, lay-type, address-length, lay-options, ProtocolFits, OptionFits}
 use Rattle.sd_format.specs.Payload.{options-part, read-payload, read-message}
 use Rattle.sd_format.specs.Rules.{item-rules}
+use Rattle.sd_format.specs.Demand3.{undecided}
 
 -- ---- in a configuration string
 
@@ -38,30 +39,30 @@ pub record StringStopped (s : List ℕ) (r : Refusal) : Type 0 where
 
 -- ---- in one option
 
--- what one option is refused by, and at which of its bytes: at its first, or where its string stopped, whose first byte is the option's fifth
-pub data OneRefused (s : List ℕ) : Refusal → ℕ → Type 0 where
-  by-length : (needed had source : ℕ) → OneRefused s (refusal 7 (needed ∷ had ∷ source ∷ []) at-byte 0) 0
-  by-zero : OneRefused s (refusal 8 [] at-byte 0) 0
-  by-string : (r : Refusal) → getD s 2 0 ≡ 0x01 → (w : StringStopped (drop 1 (take (at16 s 0) (drop 3 s))) r) → OneRefused s (moved 4 r) (4 + w .place)
+-- what one option is refused by, and at which of its bytes: at its first; where its string stopped, whose first byte is the option's fifth; or,
+-- under the strict setting, at the protocol, which is the byte that is told
+pub data OneRefused (g : Settings) (s : List ℕ) : Refusal → ℕ → Type 0 where
+  by-length : (needed had source : ℕ) → OneRefused g s (refusal 7 (needed ∷ had ∷ source ∷ []) at-byte 0) 0
+  by-zero : OneRefused g s (refusal 8 [] at-byte 0) 0
+  by-string : (r : Refusal) → getD s 2 0 ≡ 0x01 → (w : StringStopped (drop 1 (take (at16 s 0) (drop 3 s))) r) → OneRefused g s (moved 4 r) (4 + w .place)
+  by-protocol : (family : Family) (role : Role) (byte : ℕ) → g .strict ≡ true → getD s 2 0 ≡ lay-type family role → byte ≡ 5 + address-length family
+      → ¬ ProtocolFits role (getD s byte 0) → OneRefused g s (refusal 23 (getD s byte 0 ∷ []) at-byte byte) byte
 
 -- ---- among all options
 
--- unknown options fit whether they may be discarded or not: that is asked when all are read
-abbrev pub undecided : Settings
-undecided = record { discard = true }
-
--- 7, 8 or 9: the options `before` fit, and laid out they are the bytes before `start`. The reading of one from there on is refused alike at its
--- byte `place`, and what is told is that byte counted from the first of all.
-pub record Stopped (s : List ℕ) (r : Refusal) : Type 0 where
+-- 7, 8, 9 or 23: the options `before` fit, unknown ones whether they may be discarded or not, since that is asked when all are read; and laid out
+-- they are the bytes before `start`. The reading of one from there on is refused alike at its byte `place`, and what is told is that byte counted
+-- from the first of all.
+pub record Stopped (g : Settings) (s : List ℕ) (r : Refusal) : Type 0 where
   pub before : List Opt
   pub start : ℕ
   pub alone : Refusal
   pub place : ℕ
-  pub fit : All (OptionFits undecided) before
+  pub fit : All (OptionFits (undecided g)) before
   pub laid : lay-options before ≡ take start s
   pub more : start < length s
-  pub reads : read-option (drop start s) ≡ refused alone
-  pub which : OneRefused (drop start s) alone place
+  pub reads : read-option g (drop start s) ≡ refused alone
+  pub which : OneRefused g (drop start s) alone place
   pub within : place ≤ length s - start
   pub there : r ≡ (alone at-byte start + place)
 
@@ -73,7 +74,7 @@ pub record NotPermitted (g : Settings) (s : List ℕ) (r : Refusal) : Type 0 whe
   pub rest : List ℕ
   pub behind : List Opt
   pub fit : All (OptionFits g) before
-  pub decode : All (OptionFits undecided) (unrecognised type first rest ∷ behind)
+  pub decode : All (OptionFits (undecided g)) (unrecognised type first rest ∷ behind)
   pub laid : lay-options (before ++ (unrecognised type first rest ∷ behind)) ≡ s
   pub bit-clear : first .discardable ≡ false
   pub setting-off : g .discard ≡ false
@@ -86,10 +87,10 @@ pub record PlaceIsThePlace (g : Settings) (s : List ℕ) : Type 0 where
   -- a string
   pub string : (r : Refusal) → read-string s ≡ refused r → StringStopped s r
   -- one option: at one of its bytes, or at their end
-  pub option : (r : Refusal) → read-option s ≡ refused r → (p : ℕ) × OneRefused s r p × (r .place ≡ told p) × (p ≤ length s)
+  pub option : (r : Refusal) → read-option g s ≡ refused r → (p : ℕ) × OneRefused g s r p × (r .place ≡ told p) × (p ≤ length s)
   -- all options, and the index alone, which gives 10 never
-  pub options : (r : Refusal) → (read-options g s ≡ refused r) ↔ (Stopped s r ⊎ NotPermitted g s r)
-  pub index : (r : Refusal) → length s ≤ 1388 → (read-index s ≡ refused r) ↔ Stopped s r
+  pub options : (r : Refusal) → (read-options g s ≡ refused r) ↔ (Stopped g s r ⊎ NotPermitted g s r)
+  pub index : (r : Refusal) → length s ≤ 1388 → (read-index g s ≡ refused r) ↔ Stopped g s r
   -- a payload and a message tell a place where their options part is refused, that one, and nowhere else
   pub payload : (r : Refusal) → read-payload g s ≡ refused r → (r .place ≡ untold) ⊎ (read-options g (options-part s) ≡ refused r)
   pub message : (r : Refusal) → read-message g s ≡ refused r → (r .place ≡ untold) ⊎ (read-options g (options-part (drop 16 s)) ≡ refused r)

@@ -6,7 +6,7 @@ use mathlib.Core.List.{List, []}
 use lib.ListN.{take, drop, getD}
 use Rattle.numbers.specs.Answers.{Answer, accepted, refused}
 use Rattle.numbers.specs.Bytes.{at16}
-use Rattle.sd_format.specs.Options.{Family, ipv4, ipv6, First, Opt, configuring, balancing, addressed, unrecognised, discardable-bit, has}
+use Rattle.sd_format.specs.Options.{Family, First, Opt, configuring, balancing, addressed, unrecognised, discardable-bit, has, width, protocol}
 use Rattle.sd_format.specs.Strings.{read-string}
 use Rattle.sd_format.specs.Kinds.{Kind, configuration, load-balancing, address, unknown, kind-of}
 use Rattle.sd_format.specs.Frames.{Frame}
@@ -29,20 +29,12 @@ priority body = at16 body 1
 abbrev pub weight : List ℕ → ℕ
 weight body = at16 body 3
 
--- how many bytes an address has
-abbrev pub width : Family → ℕ
-width ipv4 = 4
-width ipv6 = 16
-
--- the address, a reserved byte, the transport protocol, the port
+-- the address, a reserved byte, the transport protocol (specs/Options.antt), the port
 abbrev pub address-bytes : Family → List ℕ → List ℕ
 address-bytes family body = take (width family) (drop 1 body)
 
 abbrev pub reserved : Family → List ℕ → ℕ
 reserved family body = getD body (1 + width family) 0
-
-abbrev pub protocol : Family → List ℕ → ℕ
-protocol family body = getD body (2 + width family) 0
 
 abbrev pub port : Family → List ℕ → ℕ
 port family body = at16 body (3 + width family)

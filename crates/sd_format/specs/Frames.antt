@@ -11,7 +11,7 @@ use Rattle.numbers.specs.Bytes.{at16}
 use Rattle.sd_format.specs.Settings.{Settings}
 use Rattle.sd_format.specs.Sequences.{all, next-at, starts, each-from}
 use Rattle.sd_format.specs.Options.{discardable-bit, has}
-use Rattle.sd_format.specs.Kinds.{Kind, configuration, load-balancing, address, unknown, kind-of, judge-kind, scanned, unscanned}
+use Rattle.sd_format.specs.Kinds.{Kind, configuration, load-balancing, address, unknown, kind-of, judge-content, unscanned, judge-kind}
 
 -- an option as it stands in the part: its type, and the bytes after the type, the first of which carries the discardable bit
 pub record Frame : Type 0 where
@@ -32,18 +32,18 @@ frame s =
     refuse option-length (3 + at16 s 0) (length s) 0 when ltb (length s) (3 + at16 s 0) else
     accepted (record { type = getD s 2 0; body = take (at16 s 0) (drop 3 s) })
 
--- one option in front of `s`: its frame, then its kind
-unfoldable pub one-option : (List ℕ → Verdict) → List ℕ → Answer Frame
-one-option text s = frame s >>= λ f. judge-kind text (f .type) (f .body) >> accepted f
+-- one option in front of `s`: its frame, then its kind, whose content is judged by `content`
+unfoldable pub one-option : (content : Kind → List ℕ → Verdict) → List ℕ → Answer Frame
+one-option content s = frame s >>= λ f. judge-kind content (f .type) (f .body) >> accepted f
 
-abbrev pub read-option : List ℕ → Answer Frame
-read-option = one-option scanned
+abbrev pub read-option : Settings → List ℕ → Answer Frame
+read-option g = one-option (judge-content g)
 
 -- ---- all options
 
 -- one option in front of the last bytes `s` of a part of `n` bytes: a refusal's place is counted from the part's start
-unfoldable pub placed-option : ℕ → List ℕ → Answer Frame
-placed-option n s = further (n - length s) (read-option s)
+unfoldable pub placed-option : Settings → ℕ → List ℕ → Answer Frame
+placed-option g n s = further (n - length s) (read-option g s)
 
 -- an unknown option needs the discardable bit, unless the discard setting is on (as the Rust: one that may not stand refuses the whole payload;
 -- DIFFERENCES, R3)
@@ -56,12 +56,12 @@ permitted g (address family role) body = true
 unfoldable pub permit : Settings → Frame → Verdict
 permit g f = refuse unknown-option (f .type) when not (permitted g (kind-of (f .type)) (f .body)) else pass
 
-unfoldable pub all-options : List ℕ → Answer (List Frame)
-all-options s = all (placed-option (length s)) size s
+unfoldable pub all-options : Settings → List ℕ → Answer (List Frame)
+all-options g s = all (placed-option g (length s)) size s
 
 -- after all options decode, 10 for the first bad unknown
 unfoldable pub read-options : Settings → List ℕ → Answer (List Frame)
-read-options g s = all-options s >>= λ fs. each-from size (permit g) 0 fs >> accepted fs
+read-options g s = all-options g s >>= λ fs. each-from size (permit g) 0 fs >> accepted fs
 
 -- ---- the lent table
 
@@ -86,10 +86,10 @@ unfoldable pub table-after : List ℕ → Answer (List Frame) → List ℕ
 table-after tab a = cond (ltb (length tab) slots) tab (filled a ++ drop slots tab)
 
 -- the index alone: 13, then the options (22 comes before, and 10 never)
-unfoldable pub read-index : List ℕ → Answer (List Frame)
-read-index s =
+unfoldable pub read-index : Settings → List ℕ → Answer (List Frame)
+read-index g s =
     refuse index-too-large (length s) when ltb 1388 (length s) else
-    all-options s
+    all-options g s
 
 -- ---- lookup and the cursors
 
@@ -107,8 +107,8 @@ look-up s tab count k =
     misfit (one-option unscanned (drop (getD tab k 0) s))
 
 -- the option cursor, at a byte offset
-abbrev pub next-option : List ℕ → ℕ → Answer Frame
-next-option = next-at read-option
+abbrev pub next-option : Settings → List ℕ → ℕ → Answer Frame
+next-option g = next-at (read-option g)
 
 -- the run cursor: the number of the next option, and how many are left
 pub record Run : Type 0 where

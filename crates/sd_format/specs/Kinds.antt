@@ -1,13 +1,14 @@
 -- The kinds of options: the table of the eight known kinds and their lengths, and what a kind asks of the bytes after the type.
 -- Assumes nothing: these are definitions.
-use Prim.Native.Nat.{ℕ}
-use mathlib.Core.Bool.{not, cond}
+use Prim.Native.Nat.{ℕ, _+_}
+use mathlib.Core.Bool.{Bool, not, _&&_, _||_, cond}
 use mathlib.Core.List.{List, [], _∷_}
 use lib.ListN.{length, drop}
 use lib.Dec.{eqb}
-use Rattle.numbers.specs.Refusals.{option-length}
+use Rattle.numbers.specs.Refusals.{option-length, wrong-protocol}
 use Rattle.numbers.specs.Answers.{Verdict, pass, _>>_, refuse_when_else_, further, verdict}
-use Rattle.sd_format.specs.Options.{Family, ipv4, ipv6, Role, endpoint, multicast, sd-endpoint}
+use Rattle.sd_format.specs.Settings.{Settings}
+use Rattle.sd_format.specs.Options.{Family, ipv4, ipv6, Role, endpoint, multicast, sd-endpoint, width, protocol}
 use Rattle.sd_format.specs.Strings.{read-string}
 
 pub data Kind : Type 0 where
@@ -60,22 +61,37 @@ unfoldable pub judge-length : Length → (had : ℕ) → Verdict
 judge-length (exactly n) had = refuse option-length n had 1 when not (eqb had n) else pass
 judge-length one-or-more had = pass
 
--- a configuration option's string is judged by `text`: all bytes after the first
-unfoldable pub judge-text : (List ℕ → Verdict) → Kind → List ℕ → Verdict
-judge-text text configuration body = text (drop 1 body)
-judge-text text load-balancing body = pass
-judge-text text (address family role) body = pass
-judge-text text unknown body = pass
-
-unfoldable pub judge-kind : (List ℕ → Verdict) → ℕ → List ℕ → Verdict
-judge-kind text type body = judge-length (row-of type .len) (length body) >> judge-text text (kind-of type) body
-
--- what is said of a string alone; of one in its option, whose fifth byte is the string's first; and by lookup, which scans none
+-- what is said of a string alone, and of one in its option, whose fifth byte is the string's first
 abbrev pub string-alone : List ℕ → Verdict
 string-alone s = verdict (read-string s)
 
 abbrev pub scanned : List ℕ → Verdict
 scanned s = further 4 (string-alone s)
 
-abbrev pub unscanned : List ℕ → Verdict
-unscanned s = pass
+-- which transport protocols a role may carry under the strict setting: 0x06 (TCP) and 0x11 (UDP), multicast 0x11 alone
+unfoldable pub may-carry : Role → (protocol : ℕ) → Bool
+may-carry endpoint p = eqb p 0x06 || eqb p 0x11
+may-carry multicast p = eqb p 0x11
+may-carry sd-endpoint p = eqb p 0x06 || eqb p 0x11
+
+-- an option with an address under the strict setting: 23 with its protocol, at the byte behind its length, type, first byte, address and
+-- reserved byte
+unfoldable pub judge-protocol : (strict : Bool) → Family → Role → List ℕ → Verdict
+judge-protocol strict family role body =
+    refuse wrong-protocol (protocol family body) (5 + width family) when strict && not (may-carry role (protocol family body)) else
+    pass
+
+-- what a kind holds, judged by the reading: a configuration option's string, which is all bytes after the first; an address's protocol
+unfoldable pub judge-content : Settings → Kind → List ℕ → Verdict
+judge-content g configuration body = scanned (drop 1 body)
+judge-content g load-balancing body = pass
+judge-content g (address family role) body = judge-protocol (g .strict) family role body
+judge-content g unknown body = pass
+
+-- and by lookup, which scans no string and knows no setting
+abbrev pub unscanned : Kind → List ℕ → Verdict
+unscanned kind body = pass
+
+-- a kind judged: its length, then what it holds
+unfoldable pub judge-kind : (content : Kind → List ℕ → Verdict) → (type : ℕ) → List ℕ → Verdict
+judge-kind content type body = judge-length (row-of type .len) (length body) >> content (kind-of type) body

@@ -84,11 +84,18 @@ pub record Unknown (type : ℕ) : Type 0 where
 abbrev pub SevenBits : First → Type 0
 SevenBits b = b .others < 128
 
--- what is asked of an option: good items, an address of its family's length, an unknown type that may be discarded unless the setting is on
+-- a transport protocol under the strict setting: it is 0x06 or 0x11, and 0x11 for multicast
+pub record ProtocolFits (role : Role) (protocol : ℕ) : Type 0 where
+  pub tcp-or-udp : (protocol ≡ 0x06) ⊎ (protocol ≡ 0x11)
+  pub multicast-udp : role ≡ multicast → protocol ≡ 0x11
+
+-- what is asked of an option: good items, an address of its family's length and under the strict setting its protocol, an unknown type that may
+-- be discarded unless that setting is on
 abbrev pub OptionFits : Settings → Opt → Type 0
 OptionFits g (configuring b items) = SevenBits b × All GoodItem items
 OptionFits g (balancing b priority weight) = SevenBits b
-OptionFits g (addressed family role b address reserved protocol port) = SevenBits b × (length address ≡ address-length family)
+OptionFits g (addressed family role b address reserved protocol port) =
+    SevenBits b × (length address ≡ address-length family) × (g .strict ≡ true → ProtocolFits role protocol)
 OptionFits g (unrecognised type b rest) = SevenBits b × Unknown type × ((b .discardable ≡ true) ⊎ (g .discard ≡ true))
 
 -- ---- entries

@@ -16,4 +16,6 @@ pub mod Order
 pub mod Bounds
 pub mod Places
 pub mod PlacesTold
+pub mod Protocols
+pub mod Before
 pub mod Theorems

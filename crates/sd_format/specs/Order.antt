@@ -2,9 +2,9 @@
 -- answer that is due, by its number and values. Where no input can break two neighbours, the comment says so, and the next that can be broken
 -- together stands for them. Assumes nothing: these are definitions.
 use Prim.Native.Nat.{ℕ}
-use mathlib.Core.Bool.{false}
+use mathlib.Core.Bool.{true, false}
 use mathlib.Core.List.{List, [], _∷_, _++_}
-use lib.ListN.{replicate}
+use lib.ListN.{take, replicate}
 use Rattle.numbers.specs.Bytes.{be16, be32}
 use Rattle.numbers.specs.Answers.{Answer, _gives_with_}
 use Rattle.sd_format.specs.Settings.{Settings}
@@ -13,15 +13,18 @@ use Rattle.sd_format.specs.Frames.{read-option, read-options, lent, read
 use Rattle.sd_format.specs.Entries.{read-entry, next-entry}
 use Rattle.sd_format.specs.Payload.{Reading, read-payload, read-message}
 
--- an unknown option is refused by 10 unless it may be discarded
-abbrev pub strict : Settings
-strict = record { discard = false }
+-- no setting is on, and the strict one alone is
+abbrev pub plain : Settings
+plain = record { discard = false; strict = false }
+
+abbrev pub strictly : Settings
+strictly = record { discard = false; strict = true }
 
 abbrev pub payload : List ℕ → Answer Reading
-payload = read-payload strict
+payload = read-payload plain
 
 abbrev pub message : List ℕ → Answer Reading
-message = read-message strict
+message = read-message plain
 
 -- a lent table with one slot too few
 abbrev pub short-table : List ℕ
@@ -67,20 +70,31 @@ pub record MessageInOrder : Type 0 where
   -- the payload's refusals count from its own start
   pub payload-last : message (header 0xffff8100 0 1 1 0x02 0) gives 1 with (12 ∷ [])
 
--- ---- one option: 7 below 3 bytes, 8, 7 for its whole length, then its kind: 7 with source 1, 9
--- A length of zero is never past the bytes, so 8 and the whole length break together only below 3 bytes; and no kind has both 7 with source 1
--- and 9. The whole length comes before either of them.
+-- ---- one option: 7 below 3 bytes, 8, 7 for its whole length, then its kind: 7 with source 1, 9 or 23
+-- A length of zero is never past the bytes, so 8 and the whole length break together only below 3 bytes; no kind has both 7 with source 1
+-- and 9, and none both 9 and 23. The whole length comes before any of them.
+
+-- an IPv4 option of this type with the protocol, and one that says a length of ten and has a byte more
+abbrev pub ipv4-carrying : (type protocol : ℕ) → List ℕ
+ipv4-carrying type protocol = 0x00 ∷ 0x09 ∷ type ∷ 0x00 ∷ 192 ∷ 168 ∷ 1 ∷ 1 ∷ 0x07 ∷ protocol ∷ 0x1f ∷ 0x90 ∷ []
+
+abbrev pub of-ten : (type protocol : ℕ) → List ℕ
+of-ten type protocol = 0x00 ∷ 0x0a ∷ type ∷ 0x00 ∷ 192 ∷ 168 ∷ 1 ∷ 1 ∷ 0x07 ∷ protocol ∷ 0x1f ∷ 0x90 ∷ 0x00 ∷ []
 
 pub record OptionInOrder : Type 0 where
-  pub 7-before-8 : read-option (0x00 ∷ 0x00 ∷ []) gives 7 with (3 ∷ 2 ∷ 0 ∷ 0 ∷ [])
-  pub 7-before-whole-length : read-option (0x00 ∷ 0x01 ∷ []) gives 7 with (3 ∷ 2 ∷ 0 ∷ 0 ∷ [])
-  pub 8-before-source-1 : read-option (0x00 ∷ 0x00 ∷ 0x02 ∷ []) gives 8 with (0 ∷ [])
-  pub 8-before-9 : read-option (0x00 ∷ 0x00 ∷ 0x01 ∷ []) gives 8 with (0 ∷ [])
-  pub whole-length-before-source-1 : read-option (0x00 ∷ 0x01 ∷ 0x02 ∷ []) gives 7 with (4 ∷ 3 ∷ 0 ∷ 0 ∷ [])
-  pub whole-length-before-9 : read-option (0x00 ∷ 0x01 ∷ 0x01 ∷ []) gives 7 with (4 ∷ 3 ∷ 0 ∷ 0 ∷ [])
+  pub 7-before-8 : read-option plain (0x00 ∷ 0x00 ∷ []) gives 7 with (3 ∷ 2 ∷ 0 ∷ 0 ∷ [])
+  pub 7-before-whole-length : read-option plain (0x00 ∷ 0x01 ∷ []) gives 7 with (3 ∷ 2 ∷ 0 ∷ 0 ∷ [])
+  pub 8-before-source-1 : read-option plain (0x00 ∷ 0x00 ∷ 0x02 ∷ []) gives 8 with (0 ∷ [])
+  pub 8-before-9 : read-option plain (0x00 ∷ 0x00 ∷ 0x01 ∷ []) gives 8 with (0 ∷ [])
+  pub whole-length-before-source-1 : read-option plain (0x00 ∷ 0x01 ∷ 0x02 ∷ []) gives 7 with (4 ∷ 3 ∷ 0 ∷ 0 ∷ [])
+  pub whole-length-before-9 : read-option plain (0x00 ∷ 0x01 ∷ 0x01 ∷ []) gives 7 with (4 ∷ 3 ∷ 0 ∷ 0 ∷ [])
   -- each of the two alone
-  pub source-1 : read-option (0x00 ∷ 0x01 ∷ 0x02 ∷ 0x00 ∷ []) gives 7 with (5 ∷ 1 ∷ 1 ∷ 0 ∷ [])
-  pub 9-alone : read-option (0x00 ∷ 0x01 ∷ 0x01 ∷ 0x00 ∷ []) gives 9 with (1 ∷ 4 ∷ [])
+  pub source-1 : read-option plain (0x00 ∷ 0x01 ∷ 0x02 ∷ 0x00 ∷ []) gives 7 with (5 ∷ 1 ∷ 1 ∷ 0 ∷ [])
+  pub 9-alone : read-option plain (0x00 ∷ 0x01 ∷ 0x01 ∷ 0x00 ∷ []) gives 9 with (1 ∷ 4 ∷ [])
+  -- under the strict setting
+  pub 8-before-23 : read-option strictly (0x00 ∷ 0x00 ∷ 0x04 ∷ []) gives 8 with (0 ∷ [])
+  pub whole-length-before-23 : read-option strictly (take 11 (ipv4-carrying 0x04 0x99)) gives 7 with (12 ∷ 11 ∷ 0 ∷ 0 ∷ [])
+  pub source-1-before-23 : read-option strictly (of-ten 0x04 0x99) gives 7 with (9 ∷ 10 ∷ 1 ∷ 0 ∷ [])
 
 -- ---- one item of a configuration string: length (2), empty key (4), first bad key byte (5), all spaces (6); and its end: 1, 3
 -- An empty key has no bad byte, and one of spaces has none; but an empty key has nothing but spaces.
@@ -112,10 +126,18 @@ abbrev pub no-terminator : List ℕ
 no-terminator = 0x00 ∷ 0x01 ∷ 0x01 ∷ 0x00 ∷ []
 
 pub record OptionsInOrder : Type 0 where
-  pub first-option : read-options strict (no-terminator ++ no-length) gives 9 with (1 ∷ 4 ∷ [])
-  pub 8-before-10 : read-options strict (kept 0x77 ++ no-length) gives 8 with (4 ∷ [])
-  pub 9-before-10 : read-options strict (kept 0x77 ++ no-terminator) gives 9 with (1 ∷ 8 ∷ [])
-  pub first-unknown : read-options strict (kept 0x77 ++ kept 0x78) gives 10 with (0x77 ∷ 3 ∷ [])
+  pub first-option : read-options plain (no-terminator ++ no-length) gives 9 with (1 ∷ 4 ∷ [])
+  pub 8-before-10 : read-options plain (kept 0x77 ++ no-length) gives 8 with (4 ∷ [])
+  pub 9-before-10 : read-options plain (kept 0x77 ++ no-terminator) gives 9 with (1 ∷ 8 ∷ [])
+  pub first-unknown : read-options plain (kept 0x77 ++ kept 0x78) gives 10 with (0x77 ∷ 3 ∷ [])
+  -- under the strict setting: before a later option's 7, 8 or 9, behind an earlier one's, and before 10
+  pub 23-before-later-7 : read-options strictly (ipv4-carrying 0x04 0x99 ++ of-ten 0x04 0x06) gives 23 with (0x99 ∷ 9 ∷ [])
+  pub 23-before-later-8 : read-options strictly (ipv4-carrying 0x04 0x99 ++ no-length) gives 23 with (0x99 ∷ 9 ∷ [])
+  pub 23-before-later-9 : read-options strictly (ipv4-carrying 0x04 0x99 ++ no-terminator) gives 23 with (0x99 ∷ 9 ∷ [])
+  pub 7-before-later-23 : read-options strictly (of-ten 0x04 0x06 ++ ipv4-carrying 0x04 0x99) gives 7 with (9 ∷ 10 ∷ 1 ∷ 0 ∷ [])
+  pub 9-before-later-23 : read-options strictly (no-terminator ++ ipv4-carrying 0x04 0x99) gives 9 with (1 ∷ 4 ∷ [])
+  pub first-protocol : read-options strictly (ipv4-carrying 0x14 0x06 ++ ipv4-carrying 0x04 0x99) gives 23 with (0x06 ∷ 9 ∷ [])
+  pub 23-before-10 : read-options strictly (kept 0x77 ++ ipv4-carrying 0x04 0x99) gives 23 with (0x99 ∷ 13 ∷ [])
 
 -- ---- the entries: options before them; 11, 12 for run 1, 12 for run 2; each entry before the next
 
@@ -134,14 +156,19 @@ pub record EntriesInOrder : Type 0 where
   pub 11-before-12 : payload (entries-and-options 16 (entry 0x02 0x10) 0 []) gives 11 with (0x02 ∷ [])
   pub run-1-before-run-2 : payload (entries-and-options 16 (entry 0x00 0x11) 0 []) gives 12 with (1 ∷ 0 ∷ 1 ∷ 0 ∷ [])
   pub first-entry : payload (entries-and-options 32 (entry 0x00 0x01 ++ entry 0x02 0x00) 0 []) gives 12 with (2 ∷ 0 ∷ 1 ∷ 0 ∷ [])
+  -- under the strict setting
+  pub 6-before-23 : read-payload strictly (no-entries 12 ++ (ipv4-carrying 0x04 0x99 ++ (0 ∷ []))) gives 6 with (24 ∷ 25 ∷ [])
+  pub 23-before-11 : read-payload strictly (entries-and-options 16 (entry 0x02 0x00) 12 (ipv4-carrying 0x04 0x99)) gives 23 with (0x99 ∷ 9 ∷ [])
+  pub 23-before-12 : read-payload strictly (entries-and-options 16 (entry 0x00 0x20) 12 (ipv4-carrying 0x04 0x99)) gives 23 with (0x99 ∷ 9 ∷ [])
   -- one entry alone
   pub 1-before-11 : read-entry (0x02 ∷ []) gives 1 with (16 ∷ [])
 
 -- ---- the index alone: 22, 13, then the options
 
 pub record IndexInOrder : Type 0 where
-  pub 22-before-13 : lent short-table (read-index (replicate 1389 0)) gives 22 with (346 ∷ [])
-  pub 13-before-8 : read-index (replicate 1389 0) gives 13 with (1389 ∷ [])
+  pub 22-before-13 : lent short-table (read-index plain (replicate 1389 0)) gives 22 with (346 ∷ [])
+  pub 13-before-8 : read-index plain (replicate 1389 0) gives 13 with (1389 ∷ [])
+  pub 13-before-23 : read-index strictly (ipv4-carrying 0x04 0x99 ++ replicate 1377 0) gives 13 with (1389 ∷ [])
 
 -- ---- lookup: 20, then 21 (past slot 346, past the table, no option there: one number, so that their order is not seen); the cursors: 20 first
 
@@ -150,7 +177,7 @@ pub record LookupInOrder : Type 0 where
   pub 20-before-past-the-table : look-up (kept 0x77) [] 0 0 gives 20 with []
   pub 20-before-no-option : look-up [] (0 ∷ []) 0 0 gives 20 with []
   pub run-20-before-21 : next-of-run [] [] 1 (record { next = 0; left = 0 }) gives 20 with []
-  pub option-20-before-7 : next-option [] 0 gives 20 with []
+  pub option-20-before-7 : next-option plain [] 0 gives 20 with []
   pub entry-20-before-1 : next-entry [] 0 gives 20 with []
 
 -- ---- all of them

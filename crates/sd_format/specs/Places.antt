@@ -12,13 +12,13 @@ use Rattle.sd_format.specs.Fields.{fields}
 use Rattle.sd_format.specs.Entries.{Head, Group, find, offer, subscribe, subscribe-ack, group, read-entry}
 use Rattle.sd_format.specs.Layout.{Flags}
 use Rattle.sd_format.specs.Payload.{handed-out}
-use Rattle.sd_format.specs.Order.{strict}
+use Rattle.sd_format.specs.Order.{plain}
 
 -- ---- byte 0: reboot 0x80, unicast 0x40, explicit initial data control 0x20
 
 -- the flags of a payload with this first byte
 abbrev pub flags-of : ℕ → Answer Flags
-flags-of byte = given (λ p. p .flags) (handed-out strict (byte ∷ replicate 11 0))
+flags-of byte = given (λ p. p .flags) (handed-out plain (byte ∷ replicate 11 0))
 
 abbrev pub flagged : (reboot unicast control : Bool) → Answer Flags
 flagged reboot unicast control = accepted (record { reboot = reboot; unicast = unicast; initial-data-control = control })
@@ -44,7 +44,7 @@ grouped initial-data spare counter = record { reserved = 0; initial-data = initi
 -- ---- an option by its kind's own fields
 
 abbrev pub option : List ℕ → Answer Opt
-option s = given fields (read-option s)
+option s = given fields (read-option plain s)
 
 -- the byte after the type: the discardable bit and a 5, or a 5 alone
 abbrev pub may-go : First

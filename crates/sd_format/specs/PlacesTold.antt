@@ -5,7 +5,7 @@ use mathlib.Core.List.{List, [], _∷_, _++_}
 use Rattle.numbers.specs.Answers.{_gives_with_}
 use Rattle.sd_format.specs.Strings.{read-string}
 use Rattle.sd_format.specs.Frames.{read-option, read-options, read-index, next-option}
-use Rattle.sd_format.specs.Order.{strict, payload, message, header, kept, no-length, entry, entries-and-options}
+use Rattle.sd_format.specs.Order.{plain, payload, message, header, kept, no-length, entry, entries-and-options}
 
 -- an unknown option of four bytes that may stand
 abbrev pub before : List ℕ → List ℕ
@@ -13,7 +13,7 @@ before s = 0x00 ∷ 0x01 ∷ 0x77 ∷ 0x80 ∷ s
 
 -- options that are refused by this number with these values: at this place, and behind four bytes at the later one
 abbrev pub RefusedAt : List ℕ → ℕ → List ℕ → (first later : ℕ) → Type 0
-RefusedAt s n vs first later = (read-options strict s gives n with (vs ++ (first ∷ []))) × (read-options strict (before s) gives n with (vs ++ (later ∷ [])))
+RefusedAt s n vs first later = (read-options plain s gives n with (vs ++ (first ∷ []))) × (read-options plain (before s) gives n with (vs ++ (later ∷ [])))
 
 -- a configuration option with bytes behind its terminator
 abbrev pub trailing : List ℕ
@@ -38,9 +38,9 @@ pub record PlacesTold : Type 0 where
   pub first-unknown : RefusedAt (before (kept 0x78 ++ kept 0x79)) 10 (0x78 ∷ []) 7 11
   pub later-8 : RefusedAt (kept 0x78 ++ no-length) 8 [] 4 8
   -- among all options and in the index counted from the first of them, alone from its own first byte; in the string alone from the string's
-  pub index : read-index (before trailing) gives 9 with (3 ∷ 2 ∷ 10 ∷ [])
-  pub cursor : next-option (before trailing) 4 gives 9 with (3 ∷ 2 ∷ 6 ∷ [])
-  pub alone : read-option trailing gives 9 with (3 ∷ 2 ∷ 6 ∷ [])
+  pub index : read-index plain (before trailing) gives 9 with (3 ∷ 2 ∷ 10 ∷ [])
+  pub cursor : next-option plain (before trailing) 4 gives 9 with (3 ∷ 2 ∷ 6 ∷ [])
+  pub alone : read-option plain trailing gives 9 with (3 ∷ 2 ∷ 6 ∷ [])
   pub string : read-string (0x01 ∷ 0x41 ∷ 0x00 ∷ 0x00 ∷ []) gives 9 with (3 ∷ 2 ∷ 2 ∷ [])
   -- neither the entries nor the header in front of the options are counted
   pub in-payload : payload (entries-and-options 16 (entry 0x00 0x00) 12 (before trailing)) gives 9 with (3 ∷ 2 ∷ 10 ∷ [])

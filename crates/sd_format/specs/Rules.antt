@@ -2,7 +2,7 @@
 -- them (specs/Theorems.antt): each is refused exactly by the first rule whose condition holds. Assumes nothing: these are definitions.
 use Prim.Native.Nat.{ℕ, _+_, _/_, _%_, _≤_, _<_}
 use mathlib.Core.Path.{_≡_}
-use mathlib.Core.Bool.{false}
+use mathlib.Core.Bool.{true, false}
 use mathlib.Core.Logic.{_≢_, _⊎_}
 use mathlib.Core.List.{List, [], _∷_, _++_}
 use lib.ListN.{length, take, drop, getD}
@@ -12,10 +12,11 @@ use Rattle.numbers.specs.Bytes.{at16, at32}
 use Rattle.numbers.specs.Rules.{Rules, accept, _if_else_, part_else_, _then_, Refuses, Accepts}
 use Rattle.sd_format.specs.Settings.{Settings}
 use Rattle.sd_format.specs.Sequences.{Stops, FirstRefused}
+use Rattle.sd_format.specs.Options.{Family, Role}
 use Rattle.sd_format.specs.Strings.{key-of}
 use Rattle.sd_format.specs.Frames.{Frame, size, placed-option, permit, all-options, Run}
 use Rattle.sd_format.specs.Entries.{sixteen, placed-entry}
-use Rattle.sd_format.specs.Layout.{Unknown, RunFits}
+use Rattle.sd_format.specs.Layout.{lay-type, address-length, Unknown, ProtocolFits, RunFits}
 use Rattle.sd_format.specs.Payload.{entries-length, options-length, entries-part, options-part}
 
 -- ---- configuration strings: 9 with which of the six errors, at the item, at the terminator, or at the string's end
@@ -76,22 +77,36 @@ pub record OtherLength (type had : ℕ) (r : Refusal) : Type 0 where
   pub other : had ≢ needed
   pub says : (refusal 7 (needed ∷ had ∷ 1 ∷ []) at-byte 0) ≡ r
 
--- its length stands in bytes 0 and 1, its type in byte 2; `Text` says what is refused of a string, which is all bytes after the fourth
-abbrev pub option-rules : (Text : List ℕ → Refusal → Type 0) (s : List ℕ) → Rules
-option-rules Text s =
+-- under the strict setting a kind with an address whose protocol does not fit: 23, the protocol and its byte
+pub record WrongProtocol (g : Settings) (s : List ℕ) (r : Refusal) : Type 0 where
+  pub strict : g .strict ≡ true
+  pub family : Family
+  pub role : Role
+  pub type : getD s 2 0 ≡ lay-type family role
+  pub misfit : ¬ ProtocolFits role (getD s (5 + address-length family) 0)
+  pub says : (refusal 23 (getD s (5 + address-length family) 0 ∷ []) at-byte 5 + address-length family) ≡ r
+
+-- a string in its option, whose first byte is the option's fifth
+abbrev pub Scanned : List ℕ → Refusal → Type 0
+Scanned s r = (q : Refusal) × StringRefused 0 s q × (moved 4 q ≡ r)
+
+-- what the reading refuses of what a kind holds: a configuration option's string, which is all bytes after the fourth, or a protocol; lookup
+-- neither
+abbrev pub WrongContent : Settings → List ℕ → Refusal → Type 0
+WrongContent g s r = ((getD s 2 0 ≡ 0x01) × Scanned (drop 1 (take (at16 s 0) (drop 3 s))) r) ⊎ WrongProtocol g s r
+
+abbrev pub Unscanned : List ℕ → Refusal → Type 0
+Unscanned s r = ⊥
+
+-- its length stands in bytes 0 and 1, its type in byte 2; `Content` says what is refused of what its kind holds
+abbrev pub option-rules : (Content : List ℕ → Refusal → Type 0) (s : List ℕ) → Rules
+option-rules Content s =
     refusal 7 (3 ∷ length s ∷ 0 ∷ []) at-byte 0 if length s < 3 else
     refusal 8 [] at-byte 0 if at16 s 0 ≡ 0 else
     refusal 7 ((3 + at16 s 0) ∷ length s ∷ 0 ∷ []) at-byte 0 if length s < 3 + at16 s 0 else
     part (OtherLength (getD s 2 0) (at16 s 0)) else
-    part (λ r. (getD s 2 0 ≡ 0x01) × Text (drop 1 (take (at16 s 0) (drop 3 s))) r) else
+    part (Content s) else
     accept
-
--- the reading judges the string, whose first byte is the option's fifth; lookup does not
-abbrev pub Scanned : List ℕ → Refusal → Type 0
-Scanned s r = (q : Refusal) × StringRefused 0 s q × (moved 4 q ≡ r)
-
-abbrev pub Unscanned : List ℕ → Refusal → Type 0
-Unscanned s r = ⊥
 
 -- ---- all options
 
@@ -104,15 +119,15 @@ permit-rules g f =
 -- each option from the front, its place counted from the first byte of all; after all decode, 10 for the first bad unknown
 abbrev pub options-rules : Settings → List ℕ → Rules
 options-rules g s =
-    part (Stops (placed-option (length s)) size s) else
-    part (λ r. (fs : List Frame) × (all-options s ≡ accepted fs) × FirstRefused size (permit g) 0 fs r) else
+    part (Stops (placed-option g (length s)) size s) else
+    part (λ r. (fs : List Frame) × (all-options g s ≡ accepted fs) × FirstRefused size (permit g) 0 fs r) else
     accept
 
 -- the index alone
-abbrev pub index-rules : List ℕ → Rules
-index-rules s =
+abbrev pub index-rules : Settings → List ℕ → Rules
+index-rules g s =
     refusal 13 (length s ∷ []) if 1388 < length s else
-    part (Stops (placed-option (length s)) size s) else
+    part (Stops (placed-option g (length s)) size s) else
     accept
 
 -- ---- one entry
@@ -154,7 +169,7 @@ abbrev pub payload-rules : Settings → List ℕ → Rules
 payload-rules g s =
     size-rules (length s) (entries-length s) (options-length s) then
     options-rules g (options-part s) then
-    part (λ r. (fs : List Frame) × (all-options (options-part s) ≡ accepted fs) × Stops (placed-entry (length fs)) sixteen (entries-part s) r) else
+    part (λ r. (fs : List Frame) × (all-options g (options-part s) ≡ accepted fs) × Stops (placed-entry (length fs)) sixteen (entries-part s) r) else
     accept
 
 -- the message id stands in bytes 0 to 3, client and session in 8 to 11, interface version, type and return code in 13 to 15

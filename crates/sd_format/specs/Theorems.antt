@@ -1,6 +1,7 @@
 -- What is shown of service discovery: each a statement, and all of them together at the end. Assumes nothing: these are definitions.
 use Prim.Native.Nat.{ℕ, _≤_, _<_}
 use mathlib.Core.Path.{_≡_}
+use mathlib.Core.Bool.{false}
 use mathlib.Core.List.{List}
 use lib.ListN.{length, drop, getD}
 use Rattle.numbers.specs.Refusals.{Refusal}
@@ -15,20 +16,22 @@ use Rattle.sd_format.specs.Frames.{Frame, size, one-option, read-option,
 use Rattle.sd_format.specs.Entries.{read-entry, next-entry, placed-entry}
 use Rattle.sd_format.specs.Layout.{Payload}
 use Rattle.sd_format.specs.Payload.{read-payload, frames-of, handed-out, read-message}
-use Rattle.sd_format.specs.Rules.{string-rules, Scanned, Unscanned, option-rules, permit-rules, options-rules, index-rules, entry-rules, placed-rules, payload-rules, message-rules, lent-rules, look-up-rules, cursor-rules, run-rules}
+use Rattle.sd_format.specs.Rules.{string-rules, WrongContent, Unscanned, option-rules, permit-rules, options-rules, index-rules, entry-rules, placed-rules, payload-rules, message-rules, lent-rules, look-up-rules, cursor-rules, run-rules}
 use Rattle.sd_format.specs.Demand3.{Demand3, CursorsAgree, LentExactly, IndexExact, MessageExact, StringsExact}
 use Rattle.sd_format.specs.Faults.{PlaceIsThePlace}
 use Rattle.sd_format.specs.Cases.{Cases}
 use Rattle.sd_format.specs.Order.{Order}
 use Rattle.sd_format.specs.Places.{Places}
 use Rattle.sd_format.specs.PlacesTold.{PlacesTold}
+use Rattle.sd_format.specs.Protocols.{Protocols}
+use Rattle.sd_format.specs.Before.{AsBefore, OnlyRefusesMore}
 use Rattle.sd_format.specs.Bounds.{Bounds}
 
 -- ---- when which refusal comes, with which values: each reading is refused exactly as its rules say, and accepted exactly where they accept
 pub record RulesFollowed : Type 0 where
   -- a string; one option, and one whose string is not scanned; which unknown options are permitted; all options
   pub string : (s : List ℕ) → Follows (read-string s) (string-rules s)
-  pub option : (s : List ℕ) → Follows (read-option s) (option-rules Scanned s)
+  pub option : (g : Settings) (s : List ℕ) → Follows (read-option g s) (option-rules (WrongContent g) s)
   pub unscanned-option : (s : List ℕ) → Follows (one-option unscanned s) (option-rules Unscanned s)
   pub permitted : (g : Settings) (f : Frame) → Follows (permit g f) (permit-rules g f)
   pub options : (g : Settings) (s : List ℕ) → Follows (read-options g s) (options-rules g s)
@@ -38,10 +41,10 @@ pub record RulesFollowed : Type 0 where
   -- the calls that are lent a table
   pub payload : (g : Settings) (s tab : List ℕ) → Follows (lent tab (read-payload g s)) (lent-rules tab (payload-rules g s))
   pub message : (g : Settings) (s tab : List ℕ) → Follows (lent tab (read-message g s)) (lent-rules tab (message-rules g s))
-  pub index : (s tab : List ℕ) → Follows (lent tab (read-index s)) (lent-rules tab (index-rules s))
+  pub index : (g : Settings) (s tab : List ℕ) → Follows (lent tab (read-index g s)) (lent-rules tab (index-rules g s))
   -- lookup and the cursors
   pub looked-up : (s tab : List ℕ) (count k : ℕ) → Follows (look-up s tab count k) (look-up-rules s tab count k)
-  pub option-cursor : (s : List ℕ) (at : ℕ) → Follows (next-option s at) (cursor-rules (option-rules Scanned) s at)
+  pub option-cursor : (g : Settings) (s : List ℕ) (at : ℕ) → Follows (next-option g s at) (cursor-rules (option-rules (WrongContent g)) s at)
   pub entry-cursor : (s : List ℕ) (at : ℕ) → Follows (next-entry s at) (cursor-rules entry-rules s at)
   pub run-cursor : (s tab : List ℕ) (count : ℕ) (r : Run) → Follows (next-of-run s tab count r) (run-rules s tab count r)
 
@@ -62,7 +65,7 @@ pub record TableAfter (tab : List ℕ) (a : Answer (List Frame)) : Type 0 where
 pub record TablesLeft : Type 0 where
   pub payload : (g : Settings) (s tab : List ℕ) → TableAfter tab (frames-of (read-payload g s))
   pub message : (g : Settings) (s tab : List ℕ) → TableAfter tab (frames-of (read-message g s))
-  pub index : (s tab : List ℕ) → TableAfter tab (read-index s)
+  pub index : (g : Settings) (s tab : List ℕ) → TableAfter tab (read-index g s)
 
 -- ---- all of them
 pub record Theorems : Type 1 where
@@ -70,7 +73,7 @@ pub record Theorems : Type 1 where
   pub demand3 : (g : Settings) (s : List ℕ) → Bytes s → Demand3 g s
   pub cursors-agree : (g : Settings) (s : List ℕ) → Bytes s → (p : Payload) → handed-out g s ≡ accepted p → CursorsAgree g s p
   pub message-exact : (g : Settings) (s : List ℕ) → Bytes s → MessageExact g s
-  pub index-exact : (s : List ℕ) → Bytes s → IndexExact s
+  pub index-exact : (g : Settings) (s : List ℕ) → Bytes s → IndexExact g s
   pub strings-exact : (s : List ℕ) → StringsExact s
   pub lent-exactly : {A : Type 0} (tab : List ℕ) (a : Answer A) → LentExactly tab a
   -- what is refused, and in which order
@@ -79,6 +82,10 @@ pub record Theorems : Type 1 where
   -- and where: the place that a refusal tells is the place
   pub place-is-the-place : (g : Settings) (s : List ℕ) → Bytes s → PlaceIsThePlace g s
   pub places-told : PlacesTold
+  -- the strict setting: off, every reading is as it was before there was one; on, it refuses more and changes nothing else
+  pub strict-off : (g : Settings) → g .strict ≡ false → (s : List ℕ) → AsBefore g s
+  pub strict-on : (g : Settings) (s : List ℕ) → Bytes s → OnlyRefusesMore g s
+  pub protocols : Protocols
   -- what the lent table holds
   pub tables-left : TablesLeft
   -- the rules' marked cases; and what else is computed: each field at its place, the unmarked cases and the lines of lookup
