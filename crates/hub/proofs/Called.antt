@@ -11,6 +11,8 @@ use Rattle.numbers.specs.Bytes.{Bytes}
 use Rattle.sd_format.specs.Sequences.{counted}
 use Rattle.sd_format.specs.Options.{Opt}
 use Rattle.sd_format.specs.Strings.{read-string}
+use Rattle.sd_format.specs.Settings.{Settings}
+use Rattle.sd_format.specs.Demand3.{NoStricter}
 use Rattle.sd_format.specs.Frames.{look-up, next-option, next-of-run}
 use Rattle.sd_format.specs.Entries.{Entry, read-entry, next-entry}
 use Rattle.sd_format.specs.Layout.{lay-option, lay-entries, lay-options, Payload}
@@ -18,6 +20,7 @@ use Rattle.config_string.specs.Items.{next-item}
 use Rattle.sd_index.specs.Steps.{run-of}
 use Rattle.hub.specs.Answers.{row, told, no-values, option-values, item-values}
 use Rattle.hub.specs.Entries.{entry-told}
+use Rattle.hub.specs.Settings.{settings-of}
 use Rattle.hub.specs.Options.{option-fields, read-option-told}
 use Rattle.hub.specs.Payload.{places-told}
 use Rattle.hub.specs.Tp.{Begins, Consumes, completes, Takes, Clears}
@@ -51,16 +54,18 @@ pub reads-message : (κs : _) (a : _) (r : _) (e : _) → read-message-of.Learnt
     → OfTheMessage (a .1 .1 .0) (now (a .0)) (now (e .1 .0)) r
 reads-message κs a r e learnt b long = of-the-message (a .1 .1 .0) (now (a .0)) (now (a .1 .0)) (now (e .1 .0)) r b long learnt
 
-pub indexes : (κs : _) (a : _) (r : _) (e : _) → index-of.Learnt κs a r e → Bytes (now (a .0)) → 347 ≤ length (now (a .1 .0)) → OfTheIndex (now (a .0)) (now (e .1 .0)) r
-indexes κs a r e learnt b long = of-the-index (now (a .0)) (now (a .1 .0)) (now (e .1 .0)) r b long learnt
+pub indexes : (κs : _) (a : _) (r : _) (e : _) → index-of.Learnt κs a r e → Bytes (now (a .0)) → 347 ≤ length (now (a .1 .0))
+    → OfTheIndex (a .1 .1 .0) (now (a .0)) (now (e .1 .0)) r
+indexes κs a r e learnt b long = of-the-index (a .1 .1 .0) (now (a .0)) (now (a .1 .0)) (now (e .1 .0)) r b long learnt
 
 -- the parts after an answer to which the theorem holds
-pub parts : (q : Payload) (s tab : List ℕ) (κs : _) (a : _) (r : _) (e : _) → parts-of.Learnt κs a r e → now (a .0) ≡ s → ToldToC q s tab (a .1 .0) → PartsOf q s r
-parts q s tab κs a r e learnt same t = t .parts r (learnt ∙ (λ i. places-told (a .1 .0 .number) (same i)))
+pub parts : (g : Settings) (q : Payload) (s tab : List ℕ) (κs : _) (a : _) (r : _) (e : _) → parts-of.Learnt κs a r e → now (a .0) ≡ s → ToldToC g q s tab (a .1 .0)
+    → PartsOf q s r
+parts g q s tab κs a r e learnt same t = t .parts r (learnt ∙ (λ i. places-told (a .1 .0 .number) (same i)))
 
 -- ---- entries and options of a payload that was read
 
-module _ (es : List Entry) (os : List Opt) (tab : List ℕ) (h : HandedToC es os tab) where
+module _ (g : Settings) (es : List Entry) (os : List Opt) (tab : List ℕ) (h : HandedToC g es os tab) where
   pub entries : (κs : _) (a : _) (r : _) (e : _) → next-entry-of.Learnt κs a r e → (k : ℕ) → now (a .0) ≡ lay-entries es → a .1 .0 ≡ 16 * k → r ≡ entry-told (counted es k)
   entries κs a r e learnt k part place = h .entries k r (learnt ∙ (λ i. entry-told (next-entry (part i) (place i))))
 
@@ -70,13 +75,14 @@ module _ (es : List Entry) (os : List Opt) (tab : List ℕ) (h : HandedToC es os
       let k : ℕ = a .1 .1 .1 .0 in
       h .looked-up k r (learnt ∙ (λ i. told (option-values (getD (table i) k 0)) (look-up (part i) (table i) (count i) k)))
 
-  pub options : (κs : _) (a : _) (r : _) (e : _) → next-option-of.Learnt κs a r e → (k : ℕ) → k ≤ length os → now (a .0) ≡ lay-options os → a .1 .0 ≡ start os k
-      → r ≡ told-of os k
-  options κs a r e learnt k few part place = h .options k few r (learnt ∙ (λ i. told (option-values (place i)) (next-option (part i) (place i))))
+  pub options : (κs : _) (a : _) (r : _) (e : _) → next-option-of.Learnt κs a r e → NoStricter (settings-of (a .1 .1 .0)) g → (k : ℕ) → k ≤ length os
+      → now (a .0) ≡ lay-options os → a .1 .0 ≡ start os k → r ≡ told-of os k
+  options κs a r e learnt less k few part place =
+      h .options (a .1 .1 .0) less k few r (learnt ∙ (λ i. told (option-values (place i)) (next-option (settings-of (a .1 .1 .0)) (part i) (place i))))
 
-  pub fields : (κs : _) (a : _) (r : _) (e : _) → read-option-of.Learnt κs a r e → (k : ℕ) (o : Opt) → counted os k ≡ accepted o
+  pub fields : (κs : _) (a : _) (r : _) (e : _) → read-option-of.Learnt κs a r e → NoStricter (settings-of (a .1 .0)) g → (k : ℕ) (o : Opt) → counted os k ≡ accepted o
       → now (a .0) ≡ drop (start os k) (lay-options os) → r ≡ option-fields (length (lay-option o)) o
-  fields κs a r e learnt k o is part = h .fields k o is r (learnt ∙ (λ i. read-option-told (part i)))
+  fields κs a r e learnt less k o is part = h .fields (a .1 .0) less k o is r (learnt ∙ (λ i. read-option-told (settings-of (a .1 .0)) (part i)))
 
 -- ---- what the other calls promise, as the theorems take it
 

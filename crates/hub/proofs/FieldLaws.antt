@@ -6,7 +6,8 @@ use mathlib.Core.List.{List, []}
 use Rattle.numbers.specs.Answers.{accepted, given}
 use Rattle.numbers.proofs.AnswerLaws.{given-accepted}
 use Rattle.sd_format.specs.Options.{First}
-use Rattle.sd_format.specs.Kinds.{scanned}
+use Rattle.sd_format.specs.Settings.{Settings}
+use Rattle.sd_format.specs.Kinds.{judge-content}
 use Rattle.sd_format.specs.Frames.{read-option}
 use Rattle.sd_format.proofs.FrameLaws.{option-within}
 use Rattle.sd_field.specs.Said.{first-said, code-said, option-said, Decoded, decoded}
@@ -108,7 +109,7 @@ fields-told size rest x here first priority weight protocol port address string 
     (made ∙ (λ i. option.fields ((typed ∙ ap code-said same) i) size first priority weight (ea i) protocol port (eb i)) ∙ kind) same
 
 -- an option that was read takes at least four bytes
-pub four-bytes : (s : List ℕ) (d : Decoded) → accepted d ≡ given decoded (read-option s) → 4 ≤ d .size
-four-bytes s d e =
-    let (f, read, same) = given-accepted decoded (read-option s) d (sym e) in
-    subst (λ (d : Decoded). 4 ≤ d .size) same (option-within scanned s f read .0)
+pub four-bytes : (g : Settings) (s : List ℕ) (d : Decoded) → accepted d ≡ given decoded (read-option g s) → 4 ≤ d .size
+four-bytes g s d e =
+    let (f, read, same) = given-accepted decoded (read-option g s) d (sym e) in
+    subst (λ (d : Decoded). 4 ≤ d .size) same (option-within (judge-content g) s f read .0)

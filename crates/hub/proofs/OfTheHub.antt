@@ -19,15 +19,16 @@ use Rattle.numbers.proofs.AnswerLaws.{given-accepted, then-accepted, then-pass}
 use Rattle.numbers.proofs.ByteLaws.{bytes-drop}
 use Rattle.sd_format.specs.Sequences.{counted, starts}
 use Rattle.sd_format.specs.Options.{Opt}
-use Rattle.sd_format.specs.Kinds.{scanned}
+use Rattle.sd_format.specs.Kinds.{judge-content}
 use Rattle.sd_format.specs.Frames.{Frame, size, slots, read-option, lent, read-index, look-up, next-option, next-of-run}
 use Rattle.sd_format.specs.Entries.{Entry, read-entry, next-entry}
 use Rattle.sd_format.specs.Fields.{fields}
 use Rattle.sd_format.specs.Layout.{lay-all, lay-entry, lay-option, lay-entries, lay-options, EntryFits, OptionFits, wire, Payload, lay-opening, lay-parts}
 use Rattle.sd_format.specs.Payload.{entries-length, entries-part, options-part, Reading, flags, read-payload, shown, handed-out, read-message}
-use Rattle.sd_format.specs.Demand3.{LaidOut, table-left, IndexLaidOut}
+use Rattle.sd_format.specs.Demand3.{LaidOut, table-left, NoStricter, undecided, IndexLaidOut}
 use Rattle.sd_format.proofs.FrameLaws.{lay-frame, length-frame, option-lay}
 use Rattle.sd_format.proofs.FieldLaws.{wired}
+use Rattle.sd_format.proofs.OptionLaws.{no-stricter}
 use Rattle.sd_format.proofs.EntryLaws.{length-entry, entry-lay, entry-plain}
 use Rattle.sd_format.proofs.PayloadLaws.{length-opening, part-entries, part-options, lay-read, ReadSays, read-says}
 use Rattle.sd_format.proofs.CallLaws.{lent-exactly, tables-left, index-laid, index-exact, message-exact}
@@ -39,7 +40,8 @@ use Rattle.sd_payload.proofs.FlagsByName.{flags-by-name-laid}
 use Rattle.hub.specs.declared.answers.Answer as hub
 use Rattle.hub.specs.declared.payload.Places.{Places}
 use Rattle.hub.specs.Answers.{row, told, one-value, option-values}
-use Rattle.hub.specs.Payload.{settings-of, flag-bits, summary-values, Reads, nowhere, places-of, placed, places-told}
+use Rattle.hub.specs.Settings.{settings-of, ByBits}
+use Rattle.hub.specs.Payload.{flag-bits, summary-values, Reads, nowhere, places-of, placed, places-told}
 use Rattle.hub.specs.Entries.{entry-told}
 use Rattle.hub.specs.Options.{Indexes, option-told, read-option-told, option-fields}
 use Rattle.hub.specs.OfTheHub.{start, laid-values, told-of, HandedToC, PartsOf, ToldToC, OfTheHub, OfTheIndex, OfTheMessage}
@@ -50,10 +52,11 @@ use Rattle.hub.proofs.HandedLaws.{stands-there, there-or-not, past-end,
 entry-read : (n : ℕ) (e : Entry) (rest : List ℕ) → EntryFits n e → read-entry (lay-entry e ++ rest) ≡ accepted e
 entry-read n e rest w = entry-plain n (lay-entry e ++ rest) e (entry-lay n e rest w)
 
-option-read : (g : Settings) (o : Opt) (rest : List ℕ) → OptionFits g o → read-option (lay-option o ++ rest) ≡ accepted (wire o)
-option-read g o rest w =
+-- under settings that ask no more than those under which it fits
+option-read : (h g : Settings) → NoStricter h g → (o : Opt) (rest : List ℕ) → OptionFits g o → read-option h (lay-option o ++ rest) ≡ accepted (wire o)
+option-read h g less o rest w =
     let v = wired g o w in
-    ap (λ (l : List ℕ). read-option (l ++ rest)) (sym (v .layout)) ∙ option-lay scanned (wire o) rest (v .sound)
+    no-stricter h g less _ _ (ap (λ (l : List ℕ). read-option g (l ++ rest)) (sym (v .layout)) ∙ option-lay (judge-content g) (wire o) rest (v .sound))
 
 size-laid : (g : Settings) (o : Opt) → OptionFits g o → size (wire o) ≡ length (lay-option o)
 size-laid g o w = sym (length-frame (wire o)) ∙ ap length (wired g o w .layout)
@@ -107,7 +110,7 @@ module _ (g : Settings) (os : List Opt) (w : All (OptionFits g) os) where
   OneOrNone k = ((o : Opt) × (counted os k ≡ accepted o) × OptionFits g o × (k < length os)) ⊎ ((counted os k ≡ refused nothing-there) × (length os ≤ k))
 
   one-or-none : (k : ℕ) → OneOrNone k
-  one-or-none k = there-or-not read-option lay-option wire (OptionFits g) (option-read g) some-bytes os w k
+  one-or-none k = there-or-not (read-option g) lay-option wire (OptionFits g) (option-read g g (λ on. on)) some-bytes os w k
 
   -- what is told of option k, at the place where it starts
   told-wired : (k at : ℕ) → (k < length os → at ≡ start os k) → told (option-values at) (given wire (counted os k)) ≡ told-of os k
@@ -121,17 +124,18 @@ module _ (g : Settings) (os : List Opt) (w : All (OptionFits g) os) where
           ∙ sym (ap (told (laid-values (start os k))) e)
       go (inr (e, h)) = ap (λ (a : Answer Opt). told (option-values at) (given wire a)) e ∙ sym (ap (told (laid-values (start os k))) e)
 
-  fields-told : (k : ℕ) (o : Opt) → counted os k ≡ accepted o → read-option-told (drop (start os k) (lay-options os)) ≡ option-fields (length (lay-option o)) o
+  fields-told : (h : Settings) → NoStricter h g → (k : ℕ) (o : Opt) → counted os k ≡ accepted o
+      → read-option-told h (drop (start os k) (lay-options os)) ≡ option-fields (length (lay-option o)) o
   unfolding read-option-told given
-  fields-told k o e = go (one-or-none k)
+  fields-told n less k o e = go (one-or-none k)
     where
-      go : OneOrNone k → option-told (given decoded (read-option (drop (start os k) (lay-options os)))) ≡ option-fields (length (lay-option o)) o
+      go : OneOrNone k → option-told (given decoded (read-option n (drop (start os k) (lay-options os)))) ≡ option-fields (length (lay-option o)) o
       go (inl (x, e′, f, h)) =
           let same : x ≡ o = cc in
           let fits : OptionFits g o = subst (OptionFits g) same f in
-          let (rest, there) = stands-there read-option lay-option wire (OptionFits g) (option-read g) some-bytes os k o e in
-          ap (λ (l : List ℕ). option-told (given decoded (read-option l))) there
-          ∙ ap (λ (a : Answer Frame). option-told (given decoded a)) (option-read g o rest fits)
+          let (rest, there) = stands-there (read-option n) lay-option wire (OptionFits g) (option-read n g less) some-bytes os k o e in
+          ap (λ (l : List ℕ). option-told (given decoded (read-option n l))) there
+          ∙ ap (λ (a : Answer Frame). option-told (given decoded a)) (option-read n g less o rest fits)
           ∙ (λ i. option-fields (size-laid g o fits i) (wired g o fits .own i))
       go (inr (e′, h)) = absurd (let z : _≡_ {A = ℕ} 0 1 = cc in omega arith)
 
@@ -149,15 +153,26 @@ module _ (g : Settings) (os : List Opt) (w : All (OptionFits g) os) where
         go true e = rw e
         go false e = rw e (found next)
 
-    pub handed-to-c : HandedToC es os tab
+    pub handed-to-c : HandedToC g es os tab
     handed-to-c =
         record {
           entries = λ k r e. e ∙ ap entry-told (next-entry-laid n es fit k);
           looked-up = λ k r e. e ∙ found k;
-          options = λ k h r e. e ∙ ap (told (option-values (start os k))) (next-laid read-option lay-option wire (OptionFits g) (option-read g) some-bytes os w k) ∙ told-wired k (start os k) (λ h. refl);
+          options = λ word less k h r e.
+              e ∙ ap (told (option-values (start os k))) (next-laid (read-option (settings-of word)) lay-option wire (OptionFits g) (option-read (settings-of word) g less) some-bytes os w k)
+              ∙ told-wired k (start os k) (λ h. refl);
           runs = λ next left r e. e ∙ of-run next left;
-          fields = λ k o e r is. is ∙ fields-told k o e;
+          fields = λ word less k o e r is. is ∙ fields-told (settings-of word) less k o e;
         }
+
+-- ---- the settings
+
+by-bits : (word : ℕ) → ByBits word
+by-bits word =
+    record {
+      discards = ((λ e. omega (arith, eqb-true (word / 1 % 2) 1 e)), (λ e. eq-eqb (word / 1 % 2) 1 (omega arith)));
+      is-strict = (eqb-true (word / 2 % 2) 1, eq-eqb (word / 2 % 2) 1);
+    }
 
 -- ---- the payload
 
@@ -247,7 +262,7 @@ module _ (word : ℕ) (s tab tab′ : List ℕ) (r : hub.Answer) (b : Bytes s) (
         ∙ tables-left .payload g s tab .offsets long (map wire (q .options)) (ap (given (λ (x : Reading). x .frames)) read) k (omega (arith, length-map (q .options) wire))
         ∙ start-from g (q .options) (laid .0 .options-fit) 0 k inside ∙ zero-add (start (q .options) k)
 
-    told-to-c : ToldToC q s tab′ r
+    told-to-c : ToldToC g q s tab′ r
     told-to-c =
         record {
           answer = answer;
@@ -262,16 +277,13 @@ module _ (word : ℕ) (s tab tab′ : List ℕ) (r : hub.Answer) (b : Bytes s) (
       let plain : read-payload g s ≡ accepted rd = sym (lent-exactly tab (read-payload g s) .enough long) ∙ read in
       (shown rd, demand3 g s b .handed (shown rd) .0 (ap (given shown) plain))
 
-  discards : (g .discard ≡ true) ↔ (word % 2 ≡ 1)
-  discards = ((λ e. omega (arith, eqb-true (word / 1 % 2) 1 e)), (λ e. eq-eqb (word / 1 % 2) 1 (omega arith)))
-
   empty-parts : (r .number ≡ 0 → ⊥) → (p : Places) → p ≡ places-told (r .number) s → p ≡ nowhere
   empty-parts nz p e = e ∙ ap (λ (t : Bool). cond t (placed s (sized s)) nowhere) (ne-eqb (r .number) 0 nz)
 
   pub of-the-hub : OfTheHub word s tab′ r
   of-the-hub =
       record {
-        discards = discards;
+        settings = by-bits word;
         exactly = (laid-out, λ a. ap (λ (x : hub.Answer). x .number) (answer (a .0) (a .1)));
         after = told-to-c;
         empty-parts = empty-parts;
@@ -279,39 +291,46 @@ module _ (word : ℕ) (s tab tab′ : List ℕ) (r : hub.Answer) (b : Bytes s) (
 
 -- ---- the index alone
 
-module _ (s tab tab′ : List ℕ) (r : hub.Answer) (b : Bytes s) (long : 347 ≤ length tab) (h : Indexes s tab r tab′) where
-  index-accepted : lent tab (read-index s) ≡ read-index s
-  index-accepted = lent-exactly tab (read-index s) .enough long
+module _ (word : ℕ) (s tab tab′ : List ℕ) (r : hub.Answer) (b : Bytes s) (long : 347 ≤ length tab) (h : Indexes (settings-of word) s tab r tab′) where
+  abbrev told-settings : Settings
+  told-settings = settings-of word
 
-  module _ (os : List Opt) (laid : IndexLaidOut s os) where
+  index-accepted : lent tab (read-index told-settings s) ≡ read-index told-settings s
+  index-accepted = lent-exactly tab (read-index told-settings s) .enough long
+
+  module _ (os : List Opt) (laid : IndexLaidOut told-settings s os) where
     index-answer : r ≡ row 0 (length os ∷ [])
     unfolding given
     index-answer =
-        h .answers ∙ ap (λ (a : Answer (List Frame)). told one-value (given length a)) (index-accepted ∙ index-laid s os laid)
+        h .answers ∙ ap (λ (a : Answer (List Frame)). told one-value (given length a)) (index-accepted ∙ index-laid told-settings s os laid)
         ∙ ap (λ (n : ℕ). row 0 (n ∷ [])) (length-map os wire)
 
     index-slot : (k : ℕ) → k < length os → getD tab′ k 0 ≡ start os k
     index-slot k inside =
         ap (λ (t : List ℕ). getD t k 0) (h .slots)
-        ∙ tables-left .index s tab .offsets long (map wire os) (index-laid s os laid) k (omega (arith, length-map os wire))
+        ∙ tables-left .index told-settings s tab .offsets long (map wire os) (index-laid told-settings s os laid) k (omega (arith, length-map os wire))
         ∙ start-from _ os (laid .1) 0 k inside ∙ zero-add (start os k)
 
     index-looked : (k : ℕ) → look-up (lay-options os) tab′ (length os) k ≡ given wire (counted os k)
     unfolding slots
-    index-looked k = (λ i. look-up (laid .2 i) (h .slots i) (length os) k) ∙ index-exact s b .looked-up os laid tab long k
+    index-looked k = (λ i. look-up (laid .2 i) (h .slots i) (length os) k) ∙ index-exact told-settings s b .looked-up os laid tab long k
 
-    index-handed : HandedToC [] os tab′
-    index-handed = handed-to-c _ os (laid .1) (length os) [] tt tab′ index-looked index-slot
+    -- whether unknown ones are discarded is not asked of one option
+    index-handed : HandedToC told-settings [] os tab′
+    index-handed =
+        let t = handed-to-c (undecided told-settings) os (laid .1) (length os) [] tt tab′ index-looked index-slot in
+        record { entries = t .entries; looked-up = t .looked-up; options = t .options; runs = t .runs; fields = t .fields }
 
-  index-laid-out : r .number ≡ 0 → (os : List Opt) × IndexLaidOut s os
+  index-laid-out : r .number ≡ 0 → (os : List Opt) × IndexLaidOut told-settings s os
   unfolding given
   index-laid-out z =
       let (fs, read) = h .zero z in
-      (map fields fs, index-exact s b .handed (map fields fs) .0 (ap (given (map fields)) (sym index-accepted ∙ read)))
+      (map fields fs, index-exact told-settings s b .handed (map fields fs) .0 (ap (given (map fields)) (sym index-accepted ∙ read)))
 
-  pub of-the-index : OfTheIndex s tab′ r
+  pub of-the-index : OfTheIndex word s tab′ r
   of-the-index =
       record {
+        settings = by-bits word;
         exactly = (index-laid-out, λ a. ap (λ (x : hub.Answer). x .number) (index-answer (a .0) (a .1)));
         answer = index-answer;
         handed = index-handed;

@@ -5,6 +5,7 @@ use Prim.Native.Nat.{ℕ}
 use mathlib.Core.Path.{_≡_, sym, _∙_}
 use mathlib.Core.List.{List}
 use Rattle.numbers.specs.Answers as paper
+use Rattle.sd_format.specs.Settings.{Settings}
 use Rattle.sd_format.specs.Payload.{Reading}
 use Rattle.hub.specs.declared.answers.Answer.{Answer}
 use Rattle.hub.specs.Tp.{Begins, Consumes, Takes, Clears}
@@ -18,8 +19,8 @@ same a b = a ∙ sym b
 pub read-only : (x : paper.Answer Reading) (tab : List ℕ) (r q : Answer) (t u : List ℕ) → Reads x tab r t → Reads x tab q u → (r ≡ q) × (t ≡ u)
 read-only x tab r q t u a b = (same (a .answers) (b .answers), same (a .slots) (b .slots))
 
-pub index-only : (s tab : List ℕ) (r q : Answer) (t u : List ℕ) → Indexes s tab r t → Indexes s tab q u → (r ≡ q) × (t ≡ u)
-index-only s tab r q t u a b = (same (a .answers) (b .answers), same (a .slots) (b .slots))
+pub index-only : (g : Settings) (s tab : List ℕ) (r q : Answer) (t u : List ℕ) → Indexes g s tab r t → Indexes g s tab q u → (r ≡ q) × (t ≡ u)
+index-only g s tab r q t u a b = (same (a .answers) (b .answers), same (a .slots) (b .slots))
 
 pub begin-only : (ws : List ℕ) (limit : ℕ) (r q : Answer) (v w : List ℕ) → Begins ws limit r v → Begins ws limit q w → (r ≡ q) × (v ≡ w)
 begin-only ws limit r q v w a b = (same (a .answers) (b .answers), same (a .words) (b .words))

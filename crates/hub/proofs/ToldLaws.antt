@@ -7,6 +7,7 @@ use Rattle.numbers.specs.Refusals.{Refusal}
 use Rattle.numbers.specs.Answers.{given}
 use Rattle.numbers.specs.Answers as paper
 use Rattle.numbers.proofs.AnswerLaws.{given-accepted}
+use Rattle.sd_format.specs.Settings.{Settings}
 use Rattle.sd_format.specs.Frames.{Frame, lent, read-index}
 use Rattle.sd_format.specs.Payload.{Reading}
 use Rattle.refusal.specs.declared.values.Numbers.{Numbers}
@@ -47,16 +48,21 @@ zero-count (count.Good n) r e z = (n, refl)
 zero-count (count.Refused q) r e z = absurd (telling one-value .never-zero q (sym (ap (λ (x : Answer). x .number) e) ∙ z))
 
 -- a lent table
-pub indexes : (s tab tab′ : List ℕ) (a : Count) (r : Answer) → Indexed (read-index s) tab tab′ a → r ≡ told one-value (count-said a) → Indexes s tab r tab′
-indexes s tab tab′ a r i e =
+indexes : (g : Settings) (s tab tab′ : List ℕ) (a : Count) (r : Answer) → Indexed (read-index g s) tab tab′ a → r ≡ told one-value (count-said a) → Indexes g s tab r tab′
+indexes g s tab tab′ a r i e =
     record {
       answers = e ∙ ap (told one-value) (i .told);
       slots = i .slots;
       zero = λ z.
           let (n, said) = zero-count a r e z in
-          let (fs, read, same) = given-accepted length (lent tab (read-index s)) n (sym (i .told) ∙ said) in
+          let (fs, read, same) = given-accepted length (lent tab (read-index g s)) n (sym (i .told) ∙ said) in
           (fs, read);
     }
+
+-- under the settings that the code made of a word
+pub indexes-as : {h g : Settings} → h ≡ g → (s tab tab′ : List ℕ) (a : Count) (r : Answer) → Indexed (read-index h s) tab tab′ a → r ≡ told one-value (count-said a)
+    → Indexes g s tab r tab′
+indexes-as {h} same s tab tab′ a r i e = subst (λ (k : Settings). Indexes k s tab r tab′) same (indexes h s tab tab′ a r i e)
 
 zero-good : (a : PayloadAnswer) (r : Answer) → r ≡ told summary-values (payload-said a) → r .number ≡ 0 → (p : SdPayload) × (payload-said a ≡ paper.accepted p)
 zero-good (Good p) r e z = (p, refl)

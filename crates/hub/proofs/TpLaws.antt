@@ -3,7 +3,7 @@
 use Prim.Native.Nat.{ℕ, _+_, _≤_, _<_}
 use mathlib.Core.Path.{_≡_, refl, sym, ap, ap₂, subst, _∙_}
 use mathlib.Core.Bool.{Bool, true, false, cond, false≢true}
-use mathlib.Core.List.{List}
+use mathlib.Core.List.{List, []}
 use mathlib.Core.Logic.{_↔_, inl}
 use native.Mathlib.Omega.{arith}
 use borrow.Author.Tests.{lt-ltb, le-ltb}
@@ -14,6 +14,7 @@ use Rattle.numbers.specs.Answers.{given}
 use Rattle.numbers.specs.Answers as paper
 use Rattle.numbers.proofs.AnswerLaws.{when-hit, when-pass}
 use Rattle.refusal.specs.declared.Refusal.{Refusal}
+use Rattle.refusal.specs.declared.answers.Verdict.{Verdict}
 use Rattle.refusal.specs.declared.answers.Verdict.the-variants as verdict
 use Rattle.refusal.specs.declared.answers.Count.{Count}
 use Rattle.refusal.specs.declared.answers.Count.the-variants as count
@@ -65,6 +66,10 @@ module _ (ws : List ℕ) (limit : ℕ) where
         words = words;
         state = λ k. ap state-of words ∙ words-hold .stored-back ws blank (begin limit) h refl (omega arith);
       }
+
+-- an acceptance, told as one
+pub passed : {v : Verdict} {a : Answer} → v ≡ verdict.Passed → a ≡ row 0 [] → a ≡ told no-values (verdict-said v)
+passed e told-so = told-so ∙ sym (ap (λ (v : Verdict). told no-values (verdict-said v)) e)
 
 -- ---- one segment
 

@@ -1,4 +1,5 @@
 pub mod Answers
+pub mod Settings
 pub mod Tp
 pub mod Options
 pub mod Entries

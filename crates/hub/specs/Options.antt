@@ -6,6 +6,7 @@ use mathlib.Core.List.{List, []}
 use lib.ListN.{length}
 use Rattle.numbers.specs.Answers.{given}
 use Rattle.numbers.specs.Answers as paper
+use Rattle.sd_format.specs.Settings.{Settings}
 use Rattle.sd_format.specs.Options.{First, Opt, configuring, balancing, addressed, unrecognised}
 use Rattle.sd_format.specs.Frames.{Frame, read-option, lent, table-after, read-index}
 use Rattle.sd_format.specs.Layout.{lay-type, address-length}
@@ -16,11 +17,11 @@ use Rattle.hub.specs.declared.options.Span.{Span}
 use Rattle.hub.specs.Answers.{row, refusal-row, told, one-value}
 
 -- the index: how many options there are, and the lent table after it
-pub record Indexes (s tab : List ℕ) (r : Answer) (tab′ : List ℕ) : Type 0 where
-  pub answers : r ≡ told one-value (given length (lent tab (read-index s)))
-  pub slots : tab′ ≡ table-after tab (read-index s)
+pub record Indexes (g : Settings) (s tab : List ℕ) (r : Answer) (tab′ : List ℕ) : Type 0 where
+  pub answers : r ≡ told one-value (given length (lent tab (read-index g s)))
+  pub slots : tab′ ≡ table-after tab (read-index g s)
   -- 0 is answered for what is accepted alone
-  pub zero : r .number ≡ 0 → (fs : List Frame) × (lent tab (read-index s) ≡ paper.accepted fs)
+  pub zero : r .number ≡ 0 → (fs : List Frame) × (lent tab (read-index g s) ≡ paper.accepted fs)
 
 -- ---- one option with its fields
 
@@ -79,6 +80,6 @@ abbrev pub option-told : paper.Answer Decoded → Option
 option-told (paper.accepted d) = option-fields (d .size) (d .option)
 option-told (paper.refused r) = no-option (refusal-row r)
 
--- the option in front of the bytes `s`, its string scanned
-unfoldable pub read-option-told : List ℕ → Option
-read-option-told s = option-told (given decoded (read-option s))
+-- the option in front of the bytes `s`, what it holds judged
+unfoldable pub read-option-told : Settings → List ℕ → Option
+read-option-told g s = option-told (given decoded (read-option g s))

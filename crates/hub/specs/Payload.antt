@@ -7,8 +7,6 @@ use lib.ListN.{length}
 use lib.Dec.{eqb}
 use Rattle.numbers.specs.Answers.{given}
 use Rattle.numbers.specs.Answers as paper
-use Rattle.sd_format.specs.Settings.{Settings}
-use Rattle.sd_format.specs.Options.{has}
 use Rattle.sd_format.specs.Frames.{lent, table-after}
 use Rattle.sd_format.specs.Payload.{Reading, frames-of, entries-length, entries-part, options-part}
 use Rattle.sd_payload.specs.declared.reading.SdHeaderFlags.{SdHeaderFlags}
@@ -18,10 +16,6 @@ use Rattle.sd_payload.specs.Reads.{summed}
 use Rattle.hub.specs.declared.answers.Answer.{Answer}
 use Rattle.hub.specs.declared.payload.Places.{Places}
 use Rattle.hub.specs.Answers.{told}
-
--- the settings that a word's bits tell: 0x1 to discard
-abbrev pub settings-of : ℕ → Settings
-settings-of word = record { discard = has word 0x1 }
 
 -- the three flags where byte 0 has them
 abbrev pub flag-bits : SdHeaderFlags → ℕ

@@ -15,7 +15,8 @@ use Rattle.hub.specs.declared.answers.Answer.{Answer}
 use Rattle.hub.specs.declared.options.Option.{Option}
 use Rattle.hub.specs.Answers.{row}
 use Rattle.hub.specs.Options.{Indexes, read-option-told}
-use Rattle.hub.specs.Payload.{settings-of, Reads}
+use Rattle.hub.specs.Settings.{settings-of}
+use Rattle.hub.specs.Payload.{Reads}
 
 -- the refusal `q` told as `r`, and what is so of the place that it tells
 pub record ToldRefused (There : ℕ → Type 0) (q : Refusal) (r : Answer) : Type 0 where
@@ -30,8 +31,8 @@ pub record RefusedToC : Type 0 where
   pub message : (word : ℕ) (m tab tab′ : List ℕ) (r : Answer) → Bytes m → 347 ≤ length tab → Reads (read-message (settings-of word) m) tab r tab′
       → (q : Refusal) → read-message (settings-of word) m ≡ refused q → ToldRefused (λ p. RefusedThere (settings-of word) (options-part (drop 16 m)) q) q r
   -- viaductle_index: the same, but for 10
-  pub index : (s tab tab′ : List ℕ) (r : Answer) → Bytes s → 347 ≤ length tab → Indexes s tab r tab′
-      → (q : Refusal) → read-index s ≡ refused q → ToldRefused (λ p. Stopped s q) q r
+  pub index : (word : ℕ) (s tab tab′ : List ℕ) (r : Answer) → Bytes s → 347 ≤ length tab → Indexes (settings-of word) s tab r tab′
+      → (q : Refusal) → read-index (settings-of word) s ≡ refused q → ToldRefused (λ p. Stopped (settings-of word) s q) q r
   -- viaductle_read_option: the place in that option
-  pub option : (s : List ℕ) (r : Option) → Bytes s → r ≡ read-option-told s
-      → (q : Refusal) → read-option s ≡ refused q → ToldRefused (OneRefused s q) q (r .answer)
+  pub option : (word : ℕ) (s : List ℕ) (r : Option) → Bytes s → r ≡ read-option-told (settings-of word) s
+      → (q : Refusal) → read-option (settings-of word) s ≡ refused q → ToldRefused (OneRefused (settings-of word) s q) q (r .answer)

@@ -8,6 +8,7 @@ use crate::answers::found_answer;
 use crate::answers::option_answer;
 use crate::answers::refused;
 use crate::answers::verdict_answer;
+use crate::settings::settings_of;
 use config_string::check_string;
 use config_string::next_item;
 use refusal::Count;
@@ -36,14 +37,15 @@ ghost use Rattle.sd_format.specs.Strings.{read-string};
 ghost use Rattle.config_string.specs.Items.{next-item};
 ghost use Rattle.sd_field.specs.Said.{first-said, address-said, option-said};
 ghost use Rattle.hub.specs.Answers.{told, no-values, option-values, item-values};
+ghost use Rattle.hub.specs.Settings.{settings-of};
 ghost use Rattle.hub.specs.Options.{Indexes, nowhere, behind-first, fields, option-fields, no-option, read-option-told};
 
 // The index alone: 22, 13, then the options from the front; their offsets into the lent table, and how many there are.
 #[no_mangle]
-pub extern "C" fn viaductle_index(options: &[u8], table: &mut [u16]) -> Answer
-    ensures { λ r. ⌜ Indexes (now (options .entry)) (now (table .entry)) r (now (table .exit)) ⌝ }
+pub extern "C" fn viaductle_index(options: &[u8], table: &mut [u16], settings: u32) -> Answer
+    ensures { λ r. ⌜ Indexes (settings-of settings) (now (options .entry)) (now (table .entry)) r (now (table .exit)) ⌝ }
 {
-    count_answer(read_index(options, table))
+    count_answer(read_index(settings_of(settings), options, table))
 }
 
 // The option of a number by the table: its type, where it starts, and how many bytes it takes; 20, 21.
@@ -61,11 +63,11 @@ pub extern "C" fn viaductle_lookup(
 
 // The option at a place among the options part's bytes; 20 with no bytes left, otherwise as one option is refused.
 #[no_mangle]
-pub extern "C" fn viaductle_next_option(options: &[u8], at: usize) -> Answer
-    ensures { λ r. ⌜ r ≡ told (option-values at) (next-option (now (options .entry)) at) ⌝ }
+pub extern "C" fn viaductle_next_option(options: &[u8], at: usize, settings: u32) -> Answer
+    ensures { λ r. ⌜ r ≡ told (option-values at) (next-option (settings-of settings) (now (options .entry)) at) ⌝ }
 {
     let cursor = OptionCursor { at: Offset(at) };
-    let step = cursor.next(options);
+    let step = cursor.next(settings_of(settings), options);
     let answer = step.answer;
     option_answer(answer, at)
 }
@@ -279,12 +281,12 @@ fn fields_of(option: SdOption, size: usize) -> Option
     }
 }
 
-// The option in front of these bytes, its string scanned, with its fields.
+// The option in front of these bytes, what it holds judged, with its fields.
 #[no_mangle]
-pub extern "C" fn viaductle_read_option(option: &[u8]) -> Option
-    ensures { λ r. ⌜ r ≡ read-option-told (now (option .entry)) ⌝ }
+pub extern "C" fn viaductle_read_option(option: &[u8], settings: u32) -> Option
+    ensures { λ r. ⌜ r ≡ read-option-told (settings-of settings) (now (option .entry)) ⌝ }
 {
-    let answer = read_fields(option);
+    let answer = read_fields(settings_of(settings), option);
     match answer {
         FieldsAnswer::Good { option, size } => fields_of(option, size),
         FieldsAnswer::Refused(refusal) => no_option(refused(refusal)),

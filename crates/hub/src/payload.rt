@@ -2,9 +2,9 @@
 use crate::answers::Answer;
 use crate::answers::answer_of;
 use crate::answers::refused;
+use crate::settings::settings_of;
 use refusal::Count;
 use refusal::three;
-use sd_option::Settings;
 use sd_payload::EXPLICIT_INITIAL_DATA_CONTROL;
 use sd_payload::PayloadAnswer;
 use sd_payload::REBOOT;
@@ -17,22 +17,10 @@ ghost use mathlib.Core.Path.{_≡_};
 ghost use mathlib.Core.Bool.{cond};
 ghost use Prim.Native.Nat.{_≤_};
 ghost use Rattle.sd_format.specs.Payload.{read-payload, read-message};
-ghost use Rattle.sd_option.specs.Settings.{settings-said};
 ghost use Rattle.sd_payload.specs.Reads.{payload-said};
 ghost use Rattle.hub.specs.Answers.{told};
-ghost use Rattle.hub.specs.Payload.{settings-of, flag-bits, summary-values, nowhere, places-told, Reads};
-
-// The bit of the settings' word: unknown options are accepted although they may not be discarded.
-pub const DISCARD: u32 = 0x1;
-
-// The settings that a word's bits tell; bits without a name are ignored.
-fn settings_of(word: u32) -> Settings
-    ensures { λ r. ⌜ settings-said r ≡ settings-of word ⌝ }
-{
-    Settings {
-        discard_unknown_option: word / DISCARD % 2 == 1,
-    }
-}
+ghost use Rattle.hub.specs.Settings.{settings-of};
+ghost use Rattle.hub.specs.Payload.{flag-bits, summary-values, nowhere, places-told, Reads};
 
 // A flag's bit where it is set.
 fn flag(set: bool, value: u8) -> u64

@@ -1,5 +1,6 @@
 // A stream of TP segments over words that the caller keeps, as exported to C.
 use crate::answers::Answer;
+use crate::answers::accepted;
 use crate::answers::count_answer;
 use crate::answers::refused;
 use crate::answers::verdict_answer;
@@ -41,7 +42,7 @@ pub extern "C" fn viaductle_consume(words: &mut [u32], segment: &[u8], buffer: &
     };
     let stream = step.stream;
     put(words, stream);
-    verdict_answer(answer)
+    accepted()
 }
 
 // 1 where the stream is complete, else 0.
@@ -77,5 +78,5 @@ pub extern "C" fn viaductle_clear(words: &mut [u32]) -> Answer
         return refused(Refusal::MalformedState);
     }
     put(words, tp_stream::clear(stream_of(words)));
-    verdict_answer(Verdict::Passed)
+    accepted()
 }

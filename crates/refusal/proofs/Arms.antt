@@ -53,11 +53,15 @@ pub unknown-arm : (by : ℕ) {r : Refusal} {type place there : ℕ} → there �
     → r ≡ code.UnknownOption type place → said (code.UnknownOption type there) ≡ moved-capped by (said r)
 unknown-arm by {type} made same = ap (λ (p : ℕ). said (code.UnknownOption type p)) made ∙ sym (ap (λ (r : Refusal). moved-capped by (said r)) same)
 
+pub protocol-arm : (by : ℕ) {r : Refusal} {protocol place there : ℕ} → there ≡ capped (by + place)
+    → r ≡ code.WrongProtocol protocol place → said (code.WrongProtocol protocol there) ≡ moved-capped by (said r)
+protocol-arm by {protocol} made same = ap (λ (p : ℕ). said (code.WrongProtocol protocol p)) made ∙ sym (ap (λ (r : Refusal). moved-capped by (said r)) same)
+
 -- ---- the cases that tell no place
 
--- which variants they are: all but 6 to 9, counted from 0
+-- which variants they are: all but 6 to 9 and 22, counted from 0
 abbrev others : List ℕ
-others = 0 ∷ 1 ∷ 2 ∷ 3 ∷ 4 ∷ 5 ∷ 10 ∷ 11 ∷ 12 ∷ 13 ∷ 14 ∷ 15 ∷ 16 ∷ 17 ∷ 18 ∷ 19 ∷ 20 ∷ 21 ∷ 22 ∷ 23 ∷ 24 ∷ 25 ∷ 26 ∷ 27 ∷ 28 ∷ 29 ∷ 30 ∷ []
+others = 0 ∷ 1 ∷ 2 ∷ 3 ∷ 4 ∷ 5 ∷ 10 ∷ 11 ∷ 12 ∷ 13 ∷ 14 ∷ 15 ∷ 16 ∷ 17 ∷ 18 ∷ 19 ∷ 20 ∷ 21 ∷ 23 ∷ 24 ∷ 25 ∷ 26 ∷ 27 ∷ 28 ∷ 29 ∷ 30 ∷ 31 ∷ []
 
 pub other-arm : (by : ℕ) (r : Refusal) → OneOf others (Declared.tagOf the-type r) → said r ≡ moved-capped by (said r)
 other-arm by (code.UnexpectedEndOfSlice a) o = refl
@@ -82,6 +86,7 @@ other-arm by (code.ReturnCode a) o = refl
 other-arm by code.NothingThere o = refl
 other-arm by code.TableMisfit o = refl
 other-arm by (code.FewSlots a) o = refl
+other-arm by (code.WrongProtocol a p) o = absurd (miss others 22 tt o)
 other-arm by code.NotASegment o = refl
 other-arm by (code.SegmentTooBig a b c) o = refl
 other-arm by (code.UnalignedTpPayloadLen a b) o = refl

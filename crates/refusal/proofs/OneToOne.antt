@@ -59,6 +59,7 @@ refusal-of n v p =
     (cond (eqb n 20) code.NothingThere
     (cond (eqb n 21) code.TableMisfit
     (cond (eqb n 22) (code.FewSlots (v 0))
+    (cond (eqb n 23) (code.WrongProtocol (v 0) p)
     (cond (eqb n 30) code.NotASegment
     (cond (eqb n 31) (code.SegmentTooBig (v 0) (v 1) (v 2))
     (cond (eqb n 32) (code.UnalignedTpPayloadLen (v 0) (v 1))
@@ -67,7 +68,7 @@ refusal-of n v p =
     (cond (eqb n 35) code.RangesFull
     (cond (eqb n 36) (code.LimitTooLarge (v 0))
     (cond (eqb n 37) code.NotComplete
-    code.MalformedState)))))))))))))))))))))))))))))
+    code.MalformedState))))))))))))))))))))))))))))))
 
 value : paper.Refusal → ℕ → ℕ
 value r i = getD (r .values) i 0
@@ -108,6 +109,7 @@ back (code.ReturnCode a) = refl
 back code.NothingThere = refl
 back code.TableMisfit = refl
 back (code.FewSlots a) = refl
+back (code.WrongProtocol a p) = refl
 back code.NotASegment = refl
 back (code.SegmentTooBig a b c) = refl
 back (code.UnalignedTpPayloadLen a b) = refl

@@ -100,6 +100,7 @@ case (code.ReturnCode value) = record { says = refl; not-zero = omega arith; few
 case code.NothingThere = record { says = refl; not-zero = omega arith; few = omega arith }
 case code.TableMisfit = record { says = refl; not-zero = omega arith; few = omega arith }
 case (code.FewSlots slots) = record { says = refl; not-zero = omega arith; few = omega arith }
+case (code.WrongProtocol protocol place) = record { says = refl; not-zero = omega arith; few = omega arith }
 case code.NotASegment = record { says = refl; not-zero = omega arith; few = omega arith }
 case (code.SegmentTooBig offset len max) = record { says = refl; not-zero = omega arith; few = omega arith }
 case (code.UnalignedTpPayloadLen offset len) = record { says = refl; not-zero = omega arith; few = omega arith }

@@ -46,6 +46,7 @@ row (code.ReturnCode value) = refusal 19 (value ∷ [])
 row code.NothingThere = refusal 20 []
 row code.TableMisfit = refusal 21 []
 row (code.FewSlots slots) = refusal 22 (slots ∷ [])
+row (code.WrongProtocol protocol place) = refusal 23 (protocol ∷ []) at-byte place
 row code.NotASegment = refusal 30 []
 row (code.SegmentTooBig offset len max) = refusal 31 (offset ∷ len ∷ max ∷ [])
 row (code.UnalignedTpPayloadLen offset len) = refusal 32 (offset ∷ len ∷ [])

@@ -57,6 +57,7 @@ said (code.ReturnCode value) = paper.wrong-return-code value
 said code.NothingThere = paper.nothing-there
 said code.TableMisfit = paper.table-misfit
 said (code.FewSlots slots) = paper.few-slots slots
+said (code.WrongProtocol protocol place) = paper.wrong-protocol protocol place
 said code.NotASegment = paper.not-a-segment
 said (code.SegmentTooBig offset len max) = paper.segment-too-big offset len max
 said (code.UnalignedTpPayloadLen offset len) = paper.unaligned offset len

@@ -94,6 +94,10 @@ pub enum Refusal {
     NothingThere,
     TableMisfit,
     FewSlots(usize),
+    WrongProtocol {
+        protocol: u8,
+        place: usize,
+    },
     NotASegment,
     SegmentTooBig {
         offset: u32,

@@ -44,6 +44,10 @@ pub fn moved(refusal: Refusal, by: usize) -> Refusal
             code,
             place: moved_place(place, by),
         },
+        Refusal::WrongProtocol { protocol, place } => Refusal::WrongProtocol {
+            protocol,
+            place: moved_place(place, by),
+        },
         _ => refusal,
     }
 }

@@ -201,6 +201,7 @@ pub fn numbers_of(refusal: Refusal) -> Numbers
         Refusal::NothingThere => none(20),
         Refusal::TableMisfit => none(21),
         Refusal::FewSlots(slots) => one(22, slots as u64),
+        Refusal::WrongProtocol { protocol, place } => two(23, protocol as u64, place as u64),
         Refusal::NotASegment => none(30),
         Refusal::SegmentTooBig {
             offset,

@@ -5,9 +5,10 @@ use mathlib.Core.List.{List, [], _∷_}
 use native.Mathlib.Omega.{arith}
 use lib.ListN.{length, take, drop, getD}
 use Rattle.numbers.specs.Answers.{accepted, pass, given}
+use Rattle.sd_format.specs.Settings.{Settings}
 use Rattle.sd_format.specs.Options.{First, Opt, configuring, balancing, unrecognised}
 use Rattle.sd_format.specs.Strings.{read-string}
-use Rattle.sd_format.specs.Kinds.{Kind, configuration, load-balancing, address, unknown, Row, row-of, kind-of, judge-length, scanned}
+use Rattle.sd_format.specs.Kinds.{Kind, configuration, load-balancing, address, unknown, Row, row-of, kind-of, judge-length, judge-content}
 use Rattle.sd_format.specs.Frames.{read-option}
 use Rattle.sd_format.specs.Fields.{first, string, priority, weight, items-of, fields-of, fields}
 use Rattle.sd_format.specs.Layout.{lay-type, lay-length}
@@ -99,7 +100,7 @@ holds body type some =
 abbrev body-in : List ℕ → OptionHead → List ℕ
 body-in s h = take (h .size - 3) (drop 3 s)
 
-module _ {s : List ℕ} {h : OptionHead} (t : Found scanned s h) where
+module _ (g : Settings) {s : List ℕ} {h : OptionHead} (t : Found (judge-content g) s h) where
   pub found-headed : Headed h (body-in s h)
   found-headed =
       let few = t .some in
@@ -110,7 +111,7 @@ module _ {s : List ℕ} {h : OptionHead} (t : Found scanned s h) where
       }
 
   pub found-fields : (o : SdOption) → option-said (string (body-in s h)) o ≡ fields-of (kind-of (h .code)) (h .code) (body-in s h)
-      → fields-said (rest-of s) (Good o (h .size)) ≡ given decoded (read-option s)
+      → fields-said (rest-of g s) (Good o (h .size)) ≡ given decoded (read-option g s)
   unfolding given fields
   found-fields o is =
       let option = is ∙ ap (λ (c : ℕ). fields-of (kind-of c) c (body-in s h)) (t .type) in
@@ -118,10 +119,10 @@ module _ {s : List ℕ} {h : OptionHead} (t : Found scanned s h) where
       rw (t .reads) (λ i. accepted (record { option = option i; size = size i }))
 
 -- a refusal of the reading
-pub refused-fields : (s : List ℕ) (a : OptionAnswer) {q r : code.Refusal} → reading.option-said a ≡ given head-of (read-option s) → a ≡ read.Refused q → r ≡ option-refusal a
-    → fields-said (rest-of s) (Refused r) ≡ given decoded (read-option s)
+pub refused-fields : (g : Settings) (s : List ℕ) (a : OptionAnswer) {q r : code.Refusal} → reading.option-said a ≡ given head-of (read-option g s) → a ≡ read.Refused q → r ≡ option-refusal a
+    → fields-said (rest-of g s) (Refused r) ≡ given decoded (read-option g s)
 unfolding given
-refused-fields s a {q} told this made = rw (not-found scanned s a told q this, made, this)
+refused-fields g s a {q} told this made = rw (not-found (judge-content g) s a told q this, made, this)
 
 -- behind the first byte of no bytes there are none
 pub none-behind : (l : List ℕ) {body : List ℕ} → l ≡ body → length l ≡ 0 → l ≡ drop 1 body

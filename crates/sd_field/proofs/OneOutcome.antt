@@ -7,6 +7,7 @@ use Rattle.numbers.specs.Answers.{given}
 use Rattle.numbers.specs.Bytes.{be16, be32, at16, at32}
 use Rattle.numbers.proofs.AnswerLaws.{accepted-inj, not-refused}
 use Rattle.numbers.proofs.ByteLaws.{at32-be}
+use Rattle.sd_format.specs.Settings.{Settings}
 use Rattle.sd_format.specs.Frames.{read-option}
 use Rattle.refusal.specs.Said.{said}
 use Rattle.refusal.proofs.OneToOne.{same-refusal}
@@ -57,6 +58,6 @@ fields-one-to-one rest (Refused q) (Refused r) same = ap Refused (same-refusal q
 
 -- ---- any two outcomes that a promise allows are the same
 
-pub read-fields-only : (s : List ℕ) (x y : FieldsAnswer) → fields-said (rest-of s) x ≡ given decoded (read-option s) → fields-said (rest-of s) y ≡ given decoded (read-option s)
-    → x ≡ y
-read-fields-only s x y p q = fields-one-to-one (rest-of s) x y (p ∙ sym q)
+pub read-fields-only : (g : Settings) (s : List ℕ) (x y : FieldsAnswer) → fields-said (rest-of g s) x ≡ given decoded (read-option g s)
+    → fields-said (rest-of g s) y ≡ given decoded (read-option g s) → x ≡ y
+read-fields-only g s x y p q = fields-one-to-one (rest-of g s) x y (p ∙ sym q)

@@ -9,7 +9,7 @@ use Rattle.numbers.specs.Bytes.{be16}
 use Rattle.numbers.proofs.AnswerLaws.{accepted-inj, not-refused}
 use Rattle.sd_format.specs.Settings.{Settings}
 use Rattle.sd_format.specs.Options.{Opt}
-use Rattle.sd_format.specs.Kinds.{scanned}
+use Rattle.sd_format.specs.Kinds.{judge-content}
 use Rattle.sd_format.specs.Frames.{Frame, size, read-option}
 use Rattle.sd_format.specs.Layout.{lay-option, wire, OptionFits}
 use Rattle.sd_format.proofs.FrameLaws.{length-frame, option-lay}
@@ -28,22 +28,22 @@ module _ (g : Settings) (o : Opt) (later : List ℕ) (fits : OptionFits g o) whe
   abbrev laid : List ℕ
   laid = lay-option o ++ later
 
-  read-own : read-option laid ≡ accepted (wire o)
+  read-own : read-option g laid ≡ accepted (wire o)
   read-own =
       let w = wired g o fits in
-      ap (λ (l : List ℕ). read-option (l ++ later)) (sym (w .layout)) ∙ option-lay scanned (wire o) later (w .sound)
+      ap (λ (l : List ℕ). read-option g (l ++ later)) (sym (w .layout)) ∙ option-lay (judge-content g) (wire o) later (w .sound)
 
-  fields-own : (r : FieldsAnswer) → fields-said (rest-of laid) r ≡ given decoded (read-option laid) → r ≡ Good (option-coded o) (length (lay-option o))
+  fields-own : (r : FieldsAnswer) → fields-said (rest-of g laid) r ≡ given decoded (read-option g laid) → r ≡ Good (option-coded o) (length (lay-option o))
   unfolding given
   fields-own (Good x n) told =
       let w = wired g o fits in
-      let same : _≡_ {A = Decoded} (record { option = option-said (rest-of laid) x; size = n }) (decoded (wire o)) = accepted-inj _ _ (told ∙ ap (given decoded) read-own) in
-      let option : x ≡ option-coded o = sym (option-back (rest-of laid) x) ∙ ap option-coded (ap (λ (d : Decoded). d .option) same ∙ w .own) in
+      let same : _≡_ {A = Decoded} (record { option = option-said (rest-of g laid) x; size = n }) (decoded (wire o)) = accepted-inj _ _ (told ∙ ap (given decoded) read-own) in
+      let option : x ≡ option-coded o = sym (option-back (rest-of g laid) x) ∙ ap option-coded (ap (λ (d : Decoded). d .option) same ∙ w .own) in
       let size : n ≡ length (lay-option o) = ap (λ (d : Decoded). d .size) same ∙ sym (length-frame (wire o)) ∙ ap length (w .layout) in
       λ i. Good (option i) (size i)
   fields-own (Refused q) told = not-refused (said q) (decoded (wire o)) (told ∙ ap (given decoded) read-own)
 
-  pub reads-own : ReadsOwn o later
+  pub reads-own : ReadsOwn g o later
   unfolding given
   reads-own =
       record {

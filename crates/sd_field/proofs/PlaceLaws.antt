@@ -8,8 +8,7 @@ use lib.Seq.{take-add, drop-drop}
 use Rattle.numbers.specs.Bytes.{Bytes, be32, at16, at32}
 use Rattle.numbers.proofs.ByteLaws.{bytes-drop, be16-at, be32-at, at32-drop, take-tab}
 use Rattle.sd_format.specs.Options as format
-use Rattle.sd_format.specs.Options.{ipv4, ipv6, Role, First, addressed}
-use Rattle.sd_format.specs.Fields.{width}
+use Rattle.sd_format.specs.Options.{ipv4, ipv6, Role, First, addressed, width}
 use Rattle.sd_option.specs.declared.kinds.Family.{Family}
 use Rattle.sd_option.specs.declared.kinds.Family.the-variants.{Ipv4, Ipv6}
 use Rattle.sd_option.specs.Kinds.{family-said}

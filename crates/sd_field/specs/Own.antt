@@ -7,6 +7,7 @@ use mathlib.Core.List.{List, _++_}
 use lib.ListN.{length, drop}
 use Rattle.numbers.specs.Answers.{given}
 use Rattle.numbers.specs.Bytes.{at32}
+use Rattle.sd_format.specs.Settings.{Settings}
 use Rattle.sd_format.specs.Options as format
 use Rattle.sd_format.specs.Options.{Family, ipv4, ipv6, First, Opt, configuring, balancing, addressed, unrecognised}
 use Rattle.sd_format.specs.Frames.{read-option}
@@ -42,10 +43,10 @@ option-coded (addressed family role b address reserved protocol port) =
 option-coded (unrecognised type b rest) = Unknown type (first-coded b)
 
 -- what `read_fields` and `option_rest` promise over `o`, laid out in front of any bytes
-pub record ReadsOwn (o : Opt) (later : List ℕ) : Type 0 where
-  pub fields : (r : FieldsAnswer) → fields-said (rest-of (lay-option o ++ later)) r ≡ given decoded (read-option (lay-option o ++ later))
+pub record ReadsOwn (g : Settings) (o : Opt) (later : List ℕ) : Type 0 where
+  pub fields : (r : FieldsAnswer) → fields-said (rest-of g (lay-option o ++ later)) r ≡ given decoded (read-option g (lay-option o ++ later))
       → r ≡ Good (option-coded o) (length (lay-option o))
-  pub rest : rest-of (lay-option o ++ later) ≡ drop 4 (lay-option o)
+  pub rest : rest-of g (lay-option o ++ later) ≡ drop 4 (lay-option o)
 
 -- what `code_of` promises, whatever stands behind the first byte
 pub record CodeLaid (x : SdOption) (rest : List ℕ) : Type 0 where

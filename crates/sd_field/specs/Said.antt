@@ -5,11 +5,12 @@ use mathlib.Core.List.{List, _++_}
 use lib.ListN.{length, drop}
 use Rattle.numbers.specs.Answers.{Answer, accepted, refused, given, part}
 use Rattle.numbers.specs.Bytes.{be32}
-use Rattle.sd_format.specs.Options.{Family, ipv4, ipv6, Role, First, Opt, configuring, balancing, addressed, unrecognised}
+use Rattle.sd_format.specs.Settings.{Settings}
+use Rattle.sd_format.specs.Options.{Family, ipv4, ipv6, Role, First, Opt, configuring, balancing, addressed, unrecognised, width, protocol}
 use Rattle.sd_format.specs.Strings.{read-string}
 use Rattle.sd_format.specs.Kinds.{Kind, configuration, load-balancing, address, unknown, kind-of}
 use Rattle.sd_format.specs.Frames.{Frame, size, read-option}
-use Rattle.sd_format.specs.Fields.{discardable, width, address-bytes, reserved, protocol, port, items-of, fields}
+use Rattle.sd_format.specs.Fields.{discardable, address-bytes, reserved, port, items-of, fields}
 use Rattle.sd_format.specs.Layout.{lay-type}
 use Rattle.refusal.specs.Said.{said}
 use Rattle.sd_option.specs.declared.reading.OptionHead.{OptionHead}
@@ -67,8 +68,8 @@ fields-said rest (Good option size) = accepted (record { option = option-said re
 fields-said rest (Refused r) = refused (said r)
 
 -- the bytes behind the first byte of the option in front of `s`; a refusal hands back an empty part
-abbrev pub rest-of : List ℕ → List ℕ
-rest-of s = drop 1 (part (given body-of (read-option s)))
+abbrev pub rest-of : Settings → List ℕ → List ℕ
+rest-of g s = drop 1 (part (given body-of (read-option g s)))
 
 -- ---- what the fields ask of their bytes
 

@@ -6,12 +6,13 @@ mod places; // places.rt: the numbers and the addresses at their places
 pub use codes::code_of;
 use places::address_at;
 use places::number16;
-use places::width_of;
 use refusal::Refusal;
+use sd_option::Settings;
 use sd_option::kinds::Family;
 use sd_option::kinds::OptionKind;
 use sd_option::kinds::Role;
 use sd_option::kinds::kind_of;
+use sd_option::kinds::width_of;
 use sd_option::reading::DISCARDABLE;
 use sd_option::reading::FRAME_LEN;
 use sd_option::reading::OptionAnswer;
@@ -26,6 +27,7 @@ ghost use Rattle.sd_format.specs.Kinds.{address, kind-of};
 ghost use Rattle.sd_format.specs.Frames.{read-option};
 ghost use Rattle.sd_format.specs.Fields.{string, fields-of};
 ghost use Rattle.sd_option.specs.Kinds.{family-said, role-said};
+ghost use Rattle.sd_option.specs.Settings.{settings-said};
 ghost use Rattle.sd_field.specs.Said.{first-said, option-said, decoded, fields-said, rest-of, needed, address-fields, Headed};
 
 // The byte after the type: the discardable bit, and its seven other bits, as sent.
@@ -110,11 +112,11 @@ fn fields_of(head: OptionHead, body: &[u8]) -> SdOption
     }
 }
 
-// The option in front of `s` by its fields, its configuration string scanned.
-pub fn read_fields(s: &[u8]) -> FieldsAnswer
-    ensures { λ r. ⌜ fields-said (rest-of (now (s .entry))) r ≡ given decoded (read-option (now (s .entry))) ⌝ }
+// The option in front of `s` by its fields, what it holds judged.
+pub fn read_fields(settings: Settings, s: &[u8]) -> FieldsAnswer
+    ensures { λ r. ⌜ fields-said (rest-of (settings-said settings) (now (s .entry))) r ≡ given decoded (read-option (settings-said settings) (now (s .entry))) ⌝ }
 {
-    let answer = read_option(s);
+    let answer = read_option(settings, s);
     let OptionAnswer::Good(head) = answer else {
         return FieldsAnswer::Refused(answer.refusal());
     };
@@ -127,10 +129,10 @@ pub fn read_fields(s: &[u8]) -> FieldsAnswer
 
 // What stands behind the first byte of the option in front of `s`: a configuration option's string, an unknown option's bytes; none where it is
 // refused.
-pub fn option_rest(s: &[u8]) -> &[u8]
-    ensures { λ r. ⌜ now r ≡ rest-of (now (s .entry)) ⌝ }
+pub fn option_rest(settings: Settings, s: &[u8]) -> &[u8]
+    ensures { λ r. ⌜ now r ≡ rest-of (settings-said settings) (now (s .entry)) ⌝ }
 {
-    let body = option_bytes(s);
+    let body = option_bytes(settings, s);
     if body.len() == 0 {
         return body;
     }

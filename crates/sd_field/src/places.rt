@@ -7,7 +7,7 @@ ghost use mathlib.Core.Path.{_≡_};
 ghost use Prim.Native.Nat.{_+_, _≤_};
 ghost use lib.ListN.{length};
 ghost use Rattle.numbers.specs.Bytes.{at16, at32};
-ghost use Rattle.sd_format.specs.Fields.{width};
+ghost use Rattle.sd_format.specs.Options.{width};
 ghost use Rattle.sd_option.specs.Kinds.{family-said};
 ghost use Rattle.sd_field.specs.Said.{address-said, address-in};
 
@@ -25,16 +25,6 @@ fn number32(s: &[u8], place: usize) -> u32
     ensures { λ r. ⌜ r ≡ at32 (now (s .entry)) place ⌝ }
 {
     be32(s[place], s[place + 1], s[place + 2], s[place + 3])
-}
-
-// How many bytes an address has.
-pub(crate) fn width_of(family: Family) -> usize
-    ensures { λ r. ⌜ r ≡ width (family-said family) ⌝ }
-{
-    match family {
-        Family::Ipv4 => 4,
-        Family::Ipv6 => 16,
-    }
 }
 
 // The address behind the first byte.

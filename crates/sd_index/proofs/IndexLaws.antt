@@ -1,6 +1,5 @@
 -- What a reading of the options leaves, by what it came to: the answer and the whole lent table. Assumes nothing.
 use mathlib.Core.Path.{_≡_, refl, sym, ap, _∙_, subst}
-use mathlib.Core.Bool.{true}
 use mathlib.Core.List.{List, _++_, append-assoc}
 use Prim.Native.Nat.{ℕ, _-_, _≤_, _<_}
 use native.Mathlib.Omega.{arith}
@@ -11,6 +10,7 @@ use Rattle.numbers.specs.Answers.{Answer, accepted, refused, given, refuse_when
 use Rattle.sd_format.specs.Settings.{Settings}
 use Rattle.sd_format.specs.Sequences.{starts}
 use Rattle.sd_format.specs.Frames.{Frame, size, read-options, slots, zeros, lent, filled, table-after, read-index}
+use Rattle.sd_format.specs.Demand3.{undecided}
 use Rattle.sd_format.proofs.OptionLaws.{few-options, read-parts}
 use Rattle.sd_format.proofs.CallLaws.{index-reads}
 use Rattle.refusal.specs.declared.Refusal.{Refusal}
@@ -53,9 +53,9 @@ module _ (g : Settings) (s : List ℕ) where
   indexed-is short = rw (le-ltb 1388 (length s) short)
 
 -- the index alone permits every unknown option
-pub indexed-alone : (s : List ℕ) → indexed (record { discard = true }) s ≡ read-index s
+pub indexed-alone : (g : Settings) (s : List ℕ) → indexed (undecided g) s ≡ read-index g s
 unfolding indexed read-index
-indexed-alone s = rw (index-reads s)
+indexed-alone g s = rw (index-reads g s)
 
 -- ---- what the pass came to, over a table that was cleared
 
@@ -64,7 +64,7 @@ module _ (g : Settings) (s tab tab₁ tab₂ : List ℕ) (long : 347 ≤ length 
   pub swept-good : (n : ℕ) → r ≡ Good n → Indexed (indexed g s) tab tab₂ r
   swept-good n e =
       let (fs, reads, count, table) = subst (Sweeps g s tab₁ tab₂) e sweeps in
-      let few : n ≤ 347 = omega (arith, few-options s fs (read-parts g s fs .0 reads .0)) in
+      let few : n ≤ 347 = omega (arith, few-options g s fs (read-parts g s fs .0 reads .0)) in
       rw e (index-good _ tab tab₂ long fs n (indexed-is g s short ∙ reads) count few (table ∙ ap (λ (t : List ℕ). starts size 0 fs ++ drop n t) clear))
 
   pub swept-refused : (q : Refusal) → r ≡ Refused q → length tab₂ ≡ length tab → (tab₃ : List ℕ) → tab₃ ≡ cleared tab₂ → Indexed (indexed g s) tab tab₃ r

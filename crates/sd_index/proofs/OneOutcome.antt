@@ -5,6 +5,7 @@ use mathlib.Core.Path.{_≡_, sym, ap, _∙_}
 use mathlib.Core.List.{List}
 use Rattle.numbers.specs.Answers.{Answer, given}
 use Rattle.numbers.proofs.AnswerLaws.{accepted-inj, not-refused}
+use Rattle.sd_format.specs.Settings.{Settings}
 use Rattle.sd_format.specs.Frames.{Frame, Run, next-option}
 use Rattle.refusal.specs.declared.answers.Count.{Count}
 use Rattle.refusal.proofs.OneToOne.{same-refusal, count-one-to-one}
@@ -52,9 +53,9 @@ look-up-only s tab count k x y p q = found-one x y (p ∙ sym q)
 pub option-new-only : (x y : OptionCursor) → x .at .0 ≡ 0 → y .at .0 ≡ 0 → x ≡ y
 option-new-only x y p q = place-one x y (p ∙ sym q)
 
-pub option-next-only : (s : List ℕ) (at : ℕ) (x y : OptionStep) → OptionStepped s at x → OptionStepped s at y → x ≡ y
-option-next-only s at x y p q =
-    let answer = one-option-answer (given head-of (next-option s at)) (x .answer) (y .answer) (p .answer) (q .answer) in
+pub option-next-only : (g : Settings) (s : List ℕ) (at : ℕ) (x y : OptionStep) → OptionStepped g s at x → OptionStepped g s at y → x ≡ y
+option-next-only g s at x y p q =
+    let answer = one-option-answer (given head-of (next-option g s at)) (x .answer) (y .answer) (p .answer) (q .answer) in
     let cursor = place-one (x .cursor) (y .cursor) (p .cursor ∙ sym (q .cursor)) in
     λ i. record { answer = answer i; cursor = cursor i }
 

@@ -8,7 +8,8 @@ use lib.ListN.{length, take, drop, getD}
 use lib.Seq.{getD-drop, drop-drop}
 use Rattle.numbers.specs.Answers.{Answer, accepted, refused, Verdict, given}
 use Rattle.numbers.proofs.AnswerLaws.{not-refused, when-accepted, given-accepted}
-use Rattle.sd_format.specs.Kinds.{scanned, unscanned}
+use Rattle.sd_format.specs.Settings.{Settings}
+use Rattle.sd_format.specs.Kinds.{Kind, judge-content, unscanned}
 use Rattle.sd_format.specs.Sequences.{next-at}
 use Rattle.sd_format.specs.Frames.{Frame, size, one-option, misfit, look-up, next-option}
 use Rattle.sd_format.proofs.FrameLaws.{option-says}
@@ -17,9 +18,9 @@ use Rattle.sd_option.specs.Reading.{head-of}
 use Rattle.sd_index.specs.declared.lookup.Found.{Found}
 use Rattle.sd_index.specs.Found.{located, look-up-told, Pinned}
 
-pinned : (text : List ℕ → Verdict) (s : List ℕ) (at n : ℕ) (f : Frame) → one-option text (drop at s) ≡ accepted f → size f ≡ n → Pinned text s at n f
-pinned text s at n f reads e =
-    let w = option-says text (drop at s) f reads .1 in
+pinned : (content : Kind → List ℕ → Verdict) (s : List ℕ) (at n : ℕ) (f : Frame) → one-option content (drop at s) ≡ accepted f → size f ≡ n → Pinned content s at n f
+pinned content s at n f reads e =
+    let w = option-says content (drop at s) f reads .1 in
     let k : length (f .body) ≡ n - 3 = omega arith in
     record {
       reads = reads;
@@ -47,9 +48,9 @@ found-pinned s tab count k l e =
     let at : getD tab k 0 ≡ l .offset .0 = ap (λ (x : Found). x .offset .0) told in
     (f, found, pinned unscanned s (l .offset .0) (l .head .size) f (sym (ap (λ (m : ℕ). one-option unscanned (drop m s)) at) ∙ slot-reads s tab count k f found) (ap (λ (x : Found). x .head .size) told))
 
-pub next-pinned : (s : List ℕ) (at : ℕ) (h : OptionHead) → given head-of (next-option s at) ≡ accepted h
-    → (f : Frame) × (next-option s at ≡ accepted f) × Pinned scanned s at (h .size) f
+pub next-pinned : (g : Settings) (s : List ℕ) (at : ℕ) (h : OptionHead) → given head-of (next-option g s at) ≡ accepted h
+    → (f : Frame) × (next-option g s at ≡ accepted f) × Pinned (judge-content g) s at (h .size) f
 unfolding next-at
-next-pinned s at h e =
-    let (f, found, told) = given-accepted head-of (next-option s at) h e in
-    (f, found, pinned scanned s at (h .size) f (when-accepted _ _ _ f found .1) (ap (λ (x : OptionHead). x .size) told))
+next-pinned g s at h e =
+    let (f, found, told) = given-accepted head-of (next-option g s at) h e in
+    (f, found, pinned (judge-content g) s at (h .size) f (when-accepted _ _ _ f found .1) (ap (λ (x : OptionHead). x .size) told))

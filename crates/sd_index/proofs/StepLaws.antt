@@ -9,7 +9,8 @@ use borrow.Author.Tests.{le-leb, lt-leb, eq-eqb, ne-eqb}
 use Rattle.numbers.specs.Refusals.{nothing-there}
 use Rattle.numbers.specs.Answers.{Answer, accepted, refused, given}
 use Rattle.numbers.proofs.AnswerLaws.{when-hit, when-pass, given-accepted}
-use Rattle.sd_format.specs.Kinds.{scanned}
+use Rattle.sd_format.specs.Settings.{Settings}
+use Rattle.sd_format.specs.Kinds.{judge-content}
 use Rattle.sd_format.specs.Sequences.{stands, next-at, behind}
 use Rattle.sd_format.specs.Frames.{size, read-option, look-up, next-option, Run, next-of-run, along}
 use Rattle.sd_option.specs.declared.reading.OptionHead.{OptionHead}
@@ -39,29 +40,29 @@ stands-told f told move same (refused r) c = refl
 abbrev pub behind-head : OptionHead → ℕ → ℕ
 behind-head h at = at + h .size
 
-module _ (s : List ℕ) (at : ℕ) where
-  pub next-ended : length s ≤ at → refused nothing-there ≡ given head-of (next-option s at)
+module _ (g : Settings) (s : List ℕ) (at : ℕ) where
+  pub next-ended : length s ≤ at → refused nothing-there ≡ given head-of (next-option g s at)
   unfolding next-at given
   next-ended h = sym (ap (given head-of) (when-hit _ _ _ (le-leb (length s) at h)))
 
-  pub option-stepped : (a : OptionAnswer) {cursor : OptionCursor} → option-said a ≡ given head-of (next-option s at)
-      → cursor .at .0 ≡ stands behind-head (option-said a) at → OptionStepped s at (record { answer = a; cursor = cursor })
+  pub option-stepped : (a : OptionAnswer) {cursor : OptionCursor} → option-said a ≡ given head-of (next-option g s at)
+      → cursor .at .0 ≡ stands behind-head (option-said a) at → OptionStepped g s at (record { answer = a; cursor = cursor })
   option-stepped a answer place =
       record {
         answer = answer;
-        cursor = place ∙ ap (λ (x : Answer OptionHead). stands behind-head x at) answer ∙ stands-told head-of behind-head (behind size) (λ f n. refl) (next-option s at) at;
+        cursor = place ∙ ap (λ (x : Answer OptionHead). stands behind-head x at) answer ∙ stands-told head-of behind-head (behind size) (λ f n. refl) (next-option g s at) at;
       }
 
   -- what the reading of the bytes there answered
-  module _ (bytes : List ℕ) (there : bytes ≡ drop at s) (within : at < length s) (a : OptionAnswer) (told : option-said a ≡ given head-of (read-option bytes)) where
-    pub next-told : option-said a ≡ given head-of (next-option s at)
+  module _ (bytes : List ℕ) (there : bytes ≡ drop at s) (within : at < length s) (a : OptionAnswer) (told : option-said a ≡ given head-of (read-option g bytes)) where
+    pub next-told : option-said a ≡ given head-of (next-option g s at)
     unfolding next-at
-    next-told = told ∙ ap (λ (b : List ℕ). given head-of (read-option b)) there ∙ sym (ap (given head-of) (when-pass _ _ _ (lt-leb (length s) at within)))
+    next-told = told ∙ ap (λ (b : List ℕ). given head-of (read-option g b)) there ∙ sym (ap (given head-of) (when-pass _ _ _ (lt-leb (length s) at within)))
 
     -- a cursor that handed out an option still stands within the bytes or at their end
     pub step-fits : (h : OptionHead) → a ≡ option.Good h → at + h .size ≤ length s
     step-fits h e =
-        let t = found scanned bytes a told h e in
+        let t = found (judge-content g) bytes a told h e in
         let left : length bytes ≡ length s - at = ap length there ∙ length-drop at s in
         omega arith
 

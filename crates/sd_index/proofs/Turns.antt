@@ -9,7 +9,7 @@ use Rattle.numbers.specs.Refusals.{Refusal, told, moved-place, moved}
 use Rattle.numbers.specs.Answers.{Answer, accepted, refused, Verdict, pass, _>>=_, _>>_, further, given}
 use Rattle.sd_format.specs.Settings.{Settings}
 use Rattle.sd_format.specs.Sequences.{all, starts, each-from}
-use Rattle.sd_format.specs.Kinds.{scanned}
+use Rattle.sd_format.specs.Kinds.{judge-content}
 use Rattle.sd_format.specs.Frames.{Frame, size, slots, read-option, placed-option, permit, all-options, read-options}
 use Rattle.sd_format.proofs.SequenceLaws.{all-end, all-stop, all-more, length-starts}
 use Rattle.sd_format.proofs.OptionLaws.{placed-plain}
@@ -30,7 +30,7 @@ use Rattle.sd_index.proofs.PermissionLaws.{told-permits}
 pub record Turn (g : Settings) (s tab₀ tab : List ℕ) (at n : ℕ) (v : Verdict) : Type 0 where
   pub done : List Frame
   pub count : length done ≡ n
-  pub whole : all-options s ≡ given (λ later. done ++ later) (all (placed-option (length s)) size (drop at s))
+  pub whole : all-options g s ≡ given (λ later. done ++ later) (all (placed-option g (length s)) size (drop at s))
   pub places : (later : List Frame) → starts size 0 (done ++ later) ≡ starts size 0 done ++ starts size at later
   pub permits : (later : List Frame) → each-from size (permit g) 0 (done ++ later) ≡ (v >> each-from size (permit g) at later)
   pub table : tab ≡ starts size 0 done ++ drop n tab₀
@@ -91,24 +91,24 @@ module _ {g : Settings} {s tab₀ tab : List ℕ} {at n : ℕ} {v : Verdict} (t 
     here = rw length-drop (omega arith)
 
     -- among all, the option there is read as it is alone, but for the place
-    among : placed-option (length s) (drop at s) ≡ further at (read-option (drop at s))
+    among : placed-option g (length s) (drop at s) ≡ further at (read-option g (drop at s))
     unfolding placed-option
-    among = ap (λ (n : ℕ). further n (read-option (drop at s))) here
+    among = ap (λ (n : ℕ). further n (read-option g (drop at s))) here
 
     -- it is refused alone, and `q` is what the code had of that, `r`, moved by `by` bytes
-    pub turn-stops : (alone r : Refusal) (by : ℕ) → read-option (drop at s) ≡ refused alone → moved by r ≡ moved at alone → length s ≤ most
+    pub turn-stops : (alone r : Refusal) (by : ℕ) → read-option g (drop at s) ≡ refused alone → moved by r ≡ moved at alone → length s ≤ most
         → (q : code.Refusal) → said q ≡ moved-capped by r → Sweeps g s tab₀ tab (Refused q)
     unfolding read-options given further _>>=_
     turn-stops alone r by e same few q is =
-        let (p, there, low) = option-told (drop at s) alone e in
+        let (p, there, low) = option-told g (drop at s) alone e in
         let low-here : p ≤ length s - at = rw length-drop at low in
         let told-there : moved by r .place ≡ told (at + p) = ap (λ (x : Refusal). x .place) same ∙ ap (moved-place at) there in
         let place : said q ≡ moved at alone = is ∙ uncapped by r (at + p) told-there (omega arith) ∙ same in
-        let stop : placed-option (length s) (drop at s) ≡ refused (said q) = among ∙ rw e (ap refused (sym place)) in
-        let stops : all-options s ≡ refused (said q) = t .whole ∙ ap (given (λ later. t .done ++ later)) (all-stop (placed-option (length s)) size (drop at s) (said q) left stop) in
+        let stop : placed-option g (length s) (drop at s) ≡ refused (said q) = among ∙ rw e (ap refused (sym place)) in
+        let stops : all-options g s ≡ refused (said q) = t .whole ∙ ap (given (λ later. t .done ++ later)) (all-stop (placed-option g (length s)) size (drop at s) (said q) left stop) in
         (rw stops refl, t .past)
 
-    module _ (h : OptionHead) (found : Found scanned (drop at s) h) where
+    module _ (h : OptionHead) (found : Found (judge-content g) (drop at s) h) where
       pub turn-within : (4 ≤ h .size) × (at + h .size ≤ length s)
       turn-within = let w = rw length-drop at (found .within) in (found .some, omega arith)
 
@@ -119,10 +119,10 @@ module _ {g : Settings} {s tab₀ tab : List ℕ} {at n : ℕ} {v : Verdict} (t 
       unfolding f
       size-told = ap (λ (x : OptionHead). x .size) (found .head)
 
-      rest : all (placed-option (length s)) size (drop at s) ≡ (all (placed-option (length s)) size (drop (at + h .size) s) >>= λ later. accepted (f ∷ later))
+      rest : all (placed-option g (length s)) size (drop at s) ≡ (all (placed-option g (length s)) size (drop (at + h .size) s) >>= λ later. accepted (f ∷ later))
       unfolding f
       rest =
-          all-more (placed-option (length s)) size (drop at s) f left (omega (arith, turn-within, size-told)) (placed-plain (length s) (drop at s) f .1 (found .reads))
+          all-more (placed-option g (length s)) size (drop at s) f left (omega (arith, turn-within, size-told)) (placed-plain g (length s) (drop at s) f .1 (found .reads))
           ∙ rw (size-told, drop-drop (h .size) at s)
 
       permit-is : permit g f ≡ permit-told g h
@@ -159,11 +159,11 @@ module _ {g : Settings} {s tab₀ tab : List ℕ} {at n : ℕ} {v : Verdict} (t 
   -- ---- at the end of the bytes, by the verdict on all options
 
   module _ (end : length s ≤ at) where
-    ends : all-options s ≡ accepted (t .done)
+    ends : all-options g s ≡ accepted (t .done)
     unfolding all-options given
     ends =
         t .whole
-        ∙ ap (given (λ later. t .done ++ later)) (all-end (placed-option (length s)) size (drop at s) (rw length-drop (omega arith)))
+        ∙ ap (given (λ later. t .done ++ later)) (all-end (placed-option g (length s)) size (drop at s) (rw length-drop (omega arith)))
         ∙ ap accepted (append-nil (t .done))
 
     judged : each-from size (permit g) 0 (t .done) ≡ (v >> pass)

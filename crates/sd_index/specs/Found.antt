@@ -4,6 +4,7 @@ use mathlib.Core.Path.{_≡_}
 use mathlib.Core.List.{List}
 use lib.ListN.{take, drop, getD}
 use Rattle.numbers.specs.Answers.{Answer, accepted, refused, Verdict, given}
+use Rattle.sd_format.specs.Kinds.{Kind}
 use Rattle.sd_format.specs.Frames.{Frame, one-option, look-up}
 use Rattle.refusal.specs.Said.{said}
 use Rattle.sd_option.specs.Reading.{head-of}
@@ -29,7 +30,7 @@ look-up-told s tab count k = by-table tab k (look-up s tab count k)
 -- ---- what is told pins the option
 
 -- The option `f` as it was read at place `at` of `s`, by its type and its bytes. Where it starts and how many bytes it takes give both.
-pub record Pinned (text : List ℕ → Verdict) (s : List ℕ) (at size : ℕ) (f : Frame) : Type 0 where
-  pub reads : one-option text (drop at s) ≡ accepted f
+pub record Pinned (content : Kind → List ℕ → Verdict) (s : List ℕ) (at size : ℕ) (f : Frame) : Type 0 where
+  pub reads : one-option content (drop at s) ≡ accepted f
   pub type : f .type ≡ getD s (at + 2) 0
   pub body : f .body ≡ take (size - 3) (drop (at + 3) s)

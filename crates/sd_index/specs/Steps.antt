@@ -3,6 +3,7 @@ use Prim.Native.Nat.{ℕ}
 use mathlib.Core.Path.{_≡_}
 use mathlib.Core.List.{List}
 use Rattle.numbers.specs.Answers.{given}
+use Rattle.sd_format.specs.Settings.{Settings}
 use Rattle.sd_format.specs.Sequences.{behind, stands}
 use Rattle.sd_format.specs.Frames.{size, next-option, Run, next-of-run, along}
 use Rattle.sd_option.specs.Reading.{head-of, option-said}
@@ -12,9 +13,9 @@ use Rattle.sd_index.specs.declared.cursor.RunCursor.{RunCursor}
 use Rattle.sd_index.specs.declared.cursor.RunStep.{RunStep}
 
 -- a step of the option cursor from place `at` among the options `s`
-pub record OptionStepped (s : List ℕ) (at : ℕ) (step : OptionStep) : Type 0 where
-  pub answer : option-said (step .answer) ≡ given head-of (next-option s at)
-  pub cursor : step .cursor .at .0 ≡ stands (behind size) (next-option s at) at
+pub record OptionStepped (g : Settings) (s : List ℕ) (at : ℕ) (step : OptionStep) : Type 0 where
+  pub answer : option-said (step .answer) ≡ given head-of (next-option g s at)
+  pub cursor : step .cursor .at .0 ≡ stands (behind size) (next-option g s at) at
 
 -- a run cursor in the words of the definitions
 abbrev pub run-of : (start count : ℕ) → Run

@@ -5,9 +5,11 @@ use crate::lookup::FoundAnswer;
 use crate::lookup::look_up;
 use crate::lookup::option_at;
 use refusal::Refusal;
+use sd_option::Settings;
 use sd_option::reading::OptionAnswer;
 use sd_option::reading::read_option;
 ghost use mathlib.Core.Path.{_≡_};
+ghost use Rattle.sd_option.specs.Settings.{settings-said};
 ghost use Rattle.sd_index.specs.Steps.{run-said, run-of, OptionStepped, RunStepped};
 
 // Where the next option starts.
@@ -31,8 +33,8 @@ impl OptionCursor {
 
     // The option at the cursor, and the cursor behind it; 20 with no bytes left, otherwise as `read_option` refuses, and the cursor where it
     // was.
-    pub fn next(self, options: &[u8]) -> OptionStep
-        ensures { λ r. ⌜ OptionStepped (now (options .entry)) (self .at .0) r ⌝ }
+    pub fn next(self, settings: Settings, options: &[u8]) -> OptionStep
+        ensures { λ r. ⌜ OptionStepped (settings-said settings) (now (options .entry)) (self .at .0) r ⌝ }
     {
         let offset = self.at;
         let at = offset.0;
@@ -42,7 +44,7 @@ impl OptionCursor {
                 cursor: self,
             };
         }
-        let answer = read_option(option_at(options, offset));
+        let answer = read_option(settings, option_at(options, offset));
         let OptionAnswer::Good(head) = answer else {
             return OptionStep {
                 answer,

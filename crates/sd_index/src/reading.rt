@@ -12,10 +12,10 @@ use refusal::Refusal;
 use refusal::Verdict;
 use refusal::moved;
 use sd_option::Settings;
+use sd_option::reading::CONTENT_START;
 use sd_option::reading::OptionAnswer;
-use sd_option::reading::STRING_START;
+use sd_option::reading::judge_content;
 use sd_option::reading::read_option_unscanned;
-use sd_option::reading::scan;
 ghost use Prim.Native.Nat.{_≤_};
 ghost use lib.ListN.{length};
 ghost use Rattle.sd_format.specs.Frames.{read-index};
@@ -36,9 +36,9 @@ fn sweep(settings: Settings, options: &[u8], table: &mut [u16]) -> Count
         let OptionAnswer::Good(head) = answer else {
             return Count::Refused(moved(answer.refusal(), at.0));
         };
-        let string = scan(head, rest);
-        let Verdict::Passed = string else {
-            return Count::Refused(moved(string.refusal(), at.0 + STRING_START));
+        let content = judge_content(settings, head, rest);
+        let Verdict::Passed = content else {
+            return Count::Refused(moved(content.refusal(), at.0 + CONTENT_START));
         };
         let start = at;
         write_slot(table, count, start);
@@ -80,12 +80,13 @@ pub fn read_options(settings: Settings, options: &[u8], table: &mut [u16]) -> Co
 }
 
 // The index alone: 22, 13, then the options, unknown ones whether they may be discarded or not.
-pub fn read_index(options: &[u8], table: &mut [u16]) -> Count
-    ensures { λ r. ⌜ Indexed (read-index (now (options .entry))) (now (table .entry)) (now (table .exit)) r ⌝ }
+pub fn read_index(settings: Settings, options: &[u8], table: &mut [u16]) -> Count
+    ensures { λ r. ⌜ Indexed (read-index (settings-said settings) (now (options .entry))) (now (table .entry)) (now (table .exit)) r ⌝ }
 {
     read_options(
         Settings {
             discard_unknown_option: true,
+            strict: settings.strict,
         },
         options,
         table,

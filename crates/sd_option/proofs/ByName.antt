@@ -35,4 +35,5 @@ by-name =
       ipv6-sd-endpoint = by-row 0x26 _ (kind.Address Ipv6 SdEndpoint) (Exactly 21) refl refl refl refl;
       unknown = λ code u. by-row code _ kind.Unknown OneOrMore (row-unknown code u) refl refl refl;
       discard = λ g. refl;
+      strict = λ g. refl;
     }

@@ -31,5 +31,6 @@ pub record ByName : Type 0 where
   pub ipv6-multicast : Named 0x16 (kind.Address Ipv6 Multicast) (Exactly 21)
   pub ipv6-sd-endpoint : Named 0x26 (kind.Address Ipv6 SdEndpoint) (Exactly 21)
   pub unknown : (code : ℕ) → Unknown code → Named code kind.Unknown OneOrMore
-  -- the setting is on where its field is
+  -- a setting is on where its field is
   pub discard : (g : Settings) → settings-said g .discard ≡ g .«discard_unknown_option»
+  pub strict : (g : Settings) → settings-said g .strict ≡ g .strict

@@ -1,10 +1,12 @@
 -- What the answers of the reading of one option say, in the words of the definitions. Assumes nothing: these are definitions.
 use Prim.Native.Nat.{ℕ, _-_}
-use mathlib.Core.Bool.{cond}
+use mathlib.Core.Bool.{true, cond}
 use mathlib.Core.List.{List, []}
 use lib.ListN.{length, take, drop}
 use lib.Dec.{ltb}
-use Rattle.numbers.specs.Answers.{Answer, accepted, refused}
+use Rattle.numbers.specs.Answers.{Answer, accepted, refused, Verdict, pass}
+use Rattle.sd_format.specs.Settings.{Settings}
+use Rattle.sd_format.specs.Kinds.{Kind, configuration, load-balancing, address, unknown, judge-protocol}
 use Rattle.sd_format.specs.Frames.{Frame, size}
 use Rattle.sd_format.specs.Fields.{discardable}
 use Rattle.refusal.specs.Said.{said}
@@ -37,3 +39,14 @@ body-length f = length (f .body)
 -- the bytes after the type of an option that takes `n` bytes; none where they are not all there
 abbrev pub behind-type : List ℕ → ℕ → List ℕ
 behind-type s n = cond (ltb (length s) n) [] (take (n - 3) (drop 3 s))
+
+-- the strict setting's verdict on a kind: only those with an address have a protocol
+abbrev pub strict-verdict : Kind → List ℕ → Verdict
+strict-verdict configuration body = pass
+strict-verdict load-balancing body = pass
+strict-verdict (address family role) body = judge-protocol true family role body
+strict-verdict unknown body = pass
+
+-- the highest type of a kind that holds something to judge: configuration, and under the strict setting an address
+abbrev pub last-judged : Settings → ℕ
+last-judged g = cond (g .strict) 0x26 0x01

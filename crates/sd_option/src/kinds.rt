@@ -2,8 +2,9 @@
 ghost use mathlib.Core.Path.{_≡_};
 ghost use Prim.Native.Nat.{_<_};
 ghost use lib.ListN.{getD};
+ghost use Rattle.sd_format.specs.Options.{width};
 ghost use Rattle.sd_format.specs.Kinds.{row-of, kind-of};
-ghost use Rattle.sd_option.specs.Kinds.{kind-said, encoded, rows, blank};
+ghost use Rattle.sd_option.specs.Kinds.{family-said, kind-said, encoded, rows, blank};
 
 // The type codes.
 pub const CONFIGURATION: u8 = 0x01;
@@ -101,6 +102,16 @@ pub fn row_of(code: u8) -> KindRow
 pub enum Family {
     Ipv4,
     Ipv6,
+}
+
+// How many bytes an address has.
+pub fn width_of(family: Family) -> usize
+    ensures { λ r. ⌜ r ≡ width (family-said family) ⌝ }
+{
+    match family {
+        Family::Ipv4 => 4,
+        Family::Ipv6 => 16,
+    }
 }
 
 // What its address is for.

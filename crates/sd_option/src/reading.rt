@@ -1,8 +1,14 @@
 // The reading of one option from the front of a slice: first its frame, then its kind.
+use crate::Settings;
+use crate::kinds::CONFIGURATION;
+use crate::kinds::Family;
+use crate::kinds::IPV6_SD_ENDPOINT;
 use crate::kinds::KindLength;
 use crate::kinds::OptionKind;
 use crate::kinds::kind_of;
 use crate::kinds::row_of;
+use crate::kinds::width_of;
+use crate::protocols::may_carry;
 use big_endian::be16;
 use config_string::check_string;
 use refusal::Count;
@@ -11,19 +17,22 @@ use refusal::Refusal;
 use refusal::Verdict;
 use refusal::moved;
 ghost use mathlib.Core.Path.{_≡_};
-ghost use lib.ListN.{drop};
-ghost use Rattle.numbers.specs.Answers.{given, part};
-ghost use Rattle.sd_format.specs.Options.{has};
-ghost use Rattle.sd_format.specs.Kinds.{row-of, kind-of, judge-length, judge-text, string-alone, unscanned};
+ghost use Prim.Native.Nat.{_+_};
+ghost use lib.ListN.{drop, getD};
+ghost use Rattle.numbers.specs.Answers.{further, given, part};
+ghost use Rattle.sd_format.specs.Options.{has, width};
+ghost use Rattle.sd_format.specs.Kinds.{row-of, kind-of, judge-length, judge-content, unscanned};
 ghost use Rattle.sd_format.specs.Frames.{frame, one-option, read-option};
 ghost use Rattle.refusal.specs.Said.{verdict-said, count-said};
-ghost use Rattle.sd_option.specs.Reading.{body-length, body-of, behind-type, head-of, option-said, option-refusal};
+ghost use Rattle.sd_option.specs.Kinds.{family-said, kind-said};
+ghost use Rattle.sd_option.specs.Settings.{settings-said};
+ghost use Rattle.sd_option.specs.Reading.{body-length, body-of, behind-type, head-of, option-said, option-refusal, strict-verdict, last-judged};
 
 // The length and the type, which stand before the bytes that the length counts.
 pub const FRAME_LEN: usize = 3;
 
-// Where a configuration string begins: behind the first of those bytes.
-pub const STRING_START: usize = 4;
+// Where what a kind holds begins, a string or an address: behind the first of those bytes.
+pub const CONTENT_START: usize = 4;
 
 // The bit of the first byte that says that an option may be discarded where it is not known.
 pub const DISCARDABLE: u8 = 0x80;
@@ -109,8 +118,8 @@ fn is_discardable(first: u8) -> bool
     first / DISCARDABLE % 2 == 1
 }
 
-// One option in front of `s`, its configuration string not scanned. The reading of all options calls this and `scan` itself: two small
-// functions are made part of its loop, one large one is not (docs/SPEED.md).
+// One option in front of `s`, what it holds not judged. The reading of all options calls this and `judge_content` itself: two small functions are
+// made part of its loop, one large one is not (docs/SPEED.md).
 pub fn read_option_unscanned(s: &[u8]) -> OptionAnswer
     ensures { λ r. ⌜ option-said r ≡ given head-of (one-option unscanned (now (s .entry))) ⌝ }
 {
@@ -131,51 +140,103 @@ pub fn read_option_unscanned(s: &[u8]) -> OptionAnswer
     })
 }
 
-// The string of a configuration option that takes `size` bytes; none where `s` has not so many.
-fn string_of(s: &[u8], size: usize) -> &[u8]
+// What an option holds that takes `size` bytes, behind its first byte; none where `s` has not so many.
+fn content_of(s: &[u8], size: usize) -> &[u8]
     ensures { λ r. ⌜ now r ≡ drop 1 (behind-type (now (s .entry)) size) ⌝ }
 {
     if s.len() < size {
         return &s[..0];
     }
-    if size < STRING_START {
+    if size < CONTENT_START {
         return &s[..0];
     }
-    &s[STRING_START..size]
+    &s[CONTENT_START..size]
 }
 
-// The string of a configuration option scanned; any other option has none. A place is counted from the string's first byte, and whoever asks moves
-// it: so this stays small enough for the loop (docs/SPEED.md).
-pub fn scan(head: OptionHead, s: &[u8]) -> Verdict
-    ensures { λ r. ⌜ verdict-said r ≡ judge-text string-alone (kind-of (head .code)) (behind-type (now (s .entry)) (head .size)) ⌝ }
+// The transport protocol behind an address and a reserved byte; 0 where there is none.
+fn protocol_of(family: Family, content: &[u8]) -> u8
+    ensures { λ r. ⌜ r ≡ getD (now (content .entry)) (1 + width (family-said family)) 0 ⌝ }
+{
+    let place = 1 + width_of(family);
+    if content.len() <= place {
+        return 0;
+    }
+    content[place]
+}
+
+// The strict setting's verdict on an option of this kind that takes `size` bytes, its place counted as by `judge_held`.
+fn judge_protocol(kind: OptionKind, s: &[u8], size: usize) -> Verdict
+    ensures { λ r. ⌜ further 4 (verdict-said r) ≡ strict-verdict (kind-said kind) (behind-type (now (s .entry)) size) ⌝ }
+{
+    let OptionKind::Address(family, role) = kind else {
+        return Verdict::Passed;
+    };
+    let protocol = protocol_of(family, content_of(s, size));
+    if may_carry(role, protocol) {
+        return Verdict::Passed;
+    }
+    Verdict::Refused(Refusal::WrongProtocol {
+        protocol,
+        place: 1 + width_of(family),
+    })
+}
+
+// What an option of this head holds, judged by its kind: a configuration option's string, and under the strict setting the protocol beside an
+// address. A place is counted from the option's fifth byte, where that begins, and whoever asks moves it.
+fn judge_held(settings: Settings, head: OptionHead, s: &[u8]) -> Verdict
+    ensures { λ r. ⌜ further 4 (verdict-said r) ≡ judge-content (settings-said settings) (kind-of (head .code)) (behind-type (now (s .entry)) (head .size)) ⌝ }
 {
     let kind = kind_of(head.code);
     let OptionKind::Configuration = kind else {
+        if settings.strict {
+            return judge_protocol(kind, s, head.size);
+        }
         return Verdict::Passed;
     };
-    check_string(string_of(s, head.size))
+    check_string(content_of(s, head.size))
+}
+
+// The highest type of a kind that holds something to judge.
+fn last_judged(settings: Settings) -> u8
+    ensures { λ r. ⌜ r ≡ last-judged (settings-said settings) ⌝ }
+{
+    if settings.strict {
+        return IPV6_SD_ENDPOINT;
+    }
+    CONFIGURATION
+}
+
+// What an option of this head holds, judged as `judge_held` does. The reading of all options calls this: for most types it is one comparison, which
+// is made part of its loop (docs/SPEED.md).
+pub fn judge_content(settings: Settings, head: OptionHead, s: &[u8]) -> Verdict
+    ensures { λ r. ⌜ further 4 (verdict-said r) ≡ judge-content (settings-said settings) (kind-of (head .code)) (behind-type (now (s .entry)) (head .size)) ⌝ }
+{
+    if last_judged(settings) < head.code {
+        return Verdict::Passed;
+    }
+    judge_held(settings, head, s)
 }
 
 // One option in front of `s`.
-pub fn read_option(s: &[u8]) -> OptionAnswer
-    ensures { λ r. ⌜ option-said r ≡ given head-of (read-option (now (s .entry))) ⌝ }
+pub fn read_option(settings: Settings, s: &[u8]) -> OptionAnswer
+    ensures { λ r. ⌜ option-said r ≡ given head-of (read-option (settings-said settings) (now (s .entry))) ⌝ }
 {
     let answer = read_option_unscanned(s);
     let OptionAnswer::Good(head) = answer else {
         return answer;
     };
-    let string = scan(head, s);
-    let Verdict::Passed = string else {
-        return OptionAnswer::Refused(moved(string.refusal(), STRING_START));
+    let content = judge_held(settings, head, s);
+    let Verdict::Passed = content else {
+        return OptionAnswer::Refused(moved(content.refusal(), CONTENT_START));
     };
     answer
 }
 
 // The bytes after the type of the option in front of `s`; none where it is refused.
-pub fn option_bytes(s: &[u8]) -> &[u8]
-    ensures { λ r. ⌜ now r ≡ part (given body-of (read-option (now (s .entry)))) ⌝ }
+pub fn option_bytes(settings: Settings, s: &[u8]) -> &[u8]
+    ensures { λ r. ⌜ now r ≡ part (given body-of (read-option (settings-said settings) (now (s .entry)))) ⌝ }
 {
-    let answer = read_option(s);
+    let answer = read_option(settings, s);
     let OptionAnswer::Good(head) = answer else {
         return &s[0..0];
     };

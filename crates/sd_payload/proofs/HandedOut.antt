@@ -13,7 +13,7 @@ use Rattle.numbers.proofs.ByteLaws.{bytes-drop}
 use Rattle.sd_format.specs.Settings.{Settings}
 use Rattle.sd_format.specs.Sequences.{next-at, behind, stands, HandsOut, ended, gave}
 use Rattle.sd_format.specs.Options.{First, Opt, configuring, balancing, addressed, unrecognised}
-use Rattle.sd_format.specs.Kinds.{scanned, unscanned}
+use Rattle.sd_format.specs.Kinds.{Kind, judge-content, unscanned}
 use Rattle.sd_format.specs.Frames.{Frame, size, one-option, look-up, next-option, Run, next-of-run, along}
 use Rattle.sd_format.specs.Fields.{discardable}
 use Rattle.sd_format.specs.Entries.{Entry, sixteen, next-entry}
@@ -51,10 +51,10 @@ module _ {C D A B : Type 0} (next : C → Answer A) (move : A → C → C) (next
 abbrev pub frame-told : Frame → Told
 frame-told f = record { head = head-of f; bytes = lay-frame f }
 
-frame-bytes : (text : List ℕ → Verdict) (s : List ℕ) (at : ℕ) (f : Frame) → Bytes s → one-option text (drop at s) ≡ accepted f
+frame-bytes : (content : Kind → List ℕ → Verdict) (s : List ℕ) (at : ℕ) (f : Frame) → Bytes s → one-option content (drop at s) ≡ accepted f
     → told-at s at (head-of f) ≡ frame-told f
-frame-bytes text s at f b e =
-    let w = option-says text (drop at s) f e .1 in
+frame-bytes content s at f b e =
+    let w = option-says content (drop at s) f e .1 in
     let same : take (size f) (drop at s) ≡ lay-frame f = ap (take (size f)) (sym (w .again (bytes-drop s at b))) ∙ take-at (lay-frame f) _ (size f) (length-frame f) in
     ap (λ (l : List ℕ). record { head = head-of f; bytes = l }) same
 
@@ -101,30 +101,30 @@ module _ (s : List ℕ) (next : EntryCursor → EntryStep) (meets : (c : EntryCu
       hands new first)
 
 module _ (s : List ℕ) (b : Bytes s) where
-  module _ (next : OptionCursor → OptionStep) (meets : (c : OptionCursor) → OptionStepped s (c .at .0) (next c)) where
+  module _ (h : Settings) (next : OptionCursor → OptionStep) (meets : (c : OptionCursor) → OptionStepped h s (c .at .0) (next c)) where
     abbrev next-told : OptionCursor → Answer Told
     next-told c = given (told-at s (c .at .0)) (option-said (next c .answer))
 
-    came-told : (c : OptionCursor) → next-told c ≡ given (told-at s (c .at .0)) (given head-of (next-option s (c .at .0)))
+    came-told : (c : OptionCursor) → next-told c ≡ given (told-at s (c .at .0)) (given head-of (next-option h s (c .at .0)))
     came-told c = ap (given (told-at s (c .at .0))) (meets c .answer)
 
-    option-ends : (c : OptionCursor) (r : paper.Refusal) → next-option s (c .at .0) ≡ refused r → next-told c ≡ refused r
+    option-ends : (c : OptionCursor) (r : paper.Refusal) → next-option h s (c .at .0) ≡ refused r → next-told c ≡ refused r
     unfolding given
     option-ends c r e = came-told c ∙ ap (λ (a : Answer Frame). given (told-at s (c .at .0)) (given head-of a)) e
 
-    option-gives : (c : OptionCursor) (f : Frame) → next-option s (c .at .0) ≡ accepted f
+    option-gives : (c : OptionCursor) (f : Frame) → next-option h s (c .at .0) ≡ accepted f
         → (next-told c ≡ accepted (frame-told f)) × (next c .cursor .at .0 ≡ behind size f (c .at .0))
     unfolding given next-at
     option-gives c f e = (
       came-told c ∙ ap (λ (a : Answer Frame). given (told-at s (c .at .0)) (given head-of a)) e
-          ∙ ap accepted (frame-bytes scanned s (c .at .0) f b (when-accepted _ _ _ f e .1)),
+          ∙ ap accepted (frame-bytes (judge-content h) s (c .at .0) f b (when-accepted _ _ _ f e .1)),
       meets c .cursor ∙ ap (λ (a : Answer Frame). stands (behind size) a (c .at .0)) e,
     )
 
-    pub options-too : {fs : List Frame} → HandsOut (next-option s) (behind size) 0 fs → (new : OptionCursor) → new .at .0 ≡ 0
+    pub options-too : {fs : List Frame} → HandsOut (next-option h s) (behind size) 0 fs → (new : OptionCursor) → new .at .0 ≡ 0
         → HandsOut next-told (λ o c. next c .cursor) new (map frame-told fs)
     options-too hands new first =
-        hands-too (next-option s) (behind size) next-told (λ c. next c .cursor) (λ c. c .at .0) frame-told option-ends option-gives hands new first
+        hands-too (next-option h s) (behind size) next-told (λ c. next c .cursor) (λ c. c .at .0) frame-told option-ends option-gives hands new first
 
   module _ (tab : List ℕ) (count : ℕ) where
     pub found-told : (k : ℕ) → given (told-found s) (look-up-told s tab count k) ≡ given frame-told (look-up s tab count k)

@@ -121,7 +121,7 @@ module _ (g : Settings) (s tab tab′ : List ℕ) (r : PayloadAnswer) (b : Bytes
         ap (given frame-told) (demand3 g s b .looked-up q out tab long k ∙ sym (counted-map wire (q .options) k))
         ∙ sym (counted-map frame-told (map wire (q .options)) k) ∙ ap (λ (l : List Told). counted l k) frames ∙ counted-map told (q .options) k
 
-    as-laid-out : AsLaidOut q r (length (q .options)) (table-left g s tab) (entries-part s) (options-part s)
+    as-laid-out : AsLaidOut g q r (length (q .options)) (table-left g s tab) (entries-part s) (options-part s)
     unfolding slots
     as-laid-out =
         record {
@@ -129,7 +129,7 @@ module _ (g : Settings) (s tab tab′ : List ℕ) (r : PayloadAnswer) (b : Bytes
           entries-part = entries-laid;
           options-part = options-laid;
           entries-handed = λ next meets new first. entries-too (entries-part s) next meets (both .entries) new first;
-          options-handed = λ next meets new first. rw (← frames) (options-too (options-part s) bytes next meets (both .options) new first);
+          options-handed = λ h less next meets new first. rw (← frames) (options-too (options-part s) bytes h next meets (both .options h less) new first);
           looked-up = λ ordinal found is.
               ap (given (told-found (options-part s))) is ∙ found-told (options-part s) bytes (table-left g s tab) (length (q .options)) (ordinal .0) ∙ as-counted (ordinal .0);
           run-handed = λ next meets start left new first.
@@ -141,7 +141,7 @@ module _ (g : Settings) (s tab tab′ : List ℕ) (r : PayloadAnswer) (b : Bytes
     count-is p e = ap (λ (u : SdPayload). u .options) (accepted-inj _ (summary q) (sym (ap payload-said e) ∙ answered))
 
     after-it : (p : SdPayload) → r ≡ Good p → (entries options : List ℕ) → entries ≡ handed r s (entries-part s) → options ≡ handed r s (options-part s)
-        → AsLaidOut q r (p .options) tab′ entries options
+        → AsLaidOut g q r (p .options) tab′ entries options
     after-it p e entries options is-entries is-options =
         let (rd, read, same) = reading in
         let count = count-is p e in

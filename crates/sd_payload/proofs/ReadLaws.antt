@@ -107,7 +107,7 @@ module _ (g : Settings) (s tab : List ℕ) (n : ℕ) (long : 347 ≤ length tab)
       unfolding _>>=_
       entries-refused r bad tab₂ clear =
           let (fs, read, same) = frames in
-          let few : length fs ≤ 347 = omega (arith, few-options (options-part s) fs (read-parts g (options-part s) fs .0 read .0), t .options-short) in
+          let few : length fs ≤ 347 = omega (arith, few-options g (options-part s) fs (read-parts g (options-part s) fs .0 read .0), t .options-short) in
           let refuses : read-entries k (entries-part s) ≡ refused (said r) = given-refused (λ es. tt) _ (said r) (sym judged ∙ ap verdict-said bad) in
           read-refused _ tab tab₂ long r (reads ∙ rw (read, same, refuses)) (clear ∙ ap cleared table-is ∙ after-cleared tab long fs few)
 

@@ -14,7 +14,7 @@ use Rattle.sd_format.specs.Sequences.{HandsOut, counted}
 use Rattle.sd_format.specs.Options.{First, Opt, configuring, balancing, addressed, unrecognised}
 use Rattle.sd_format.specs.Layout.{lay-option, lay-entries, lay-options, Payload}
 use Rattle.sd_format.specs.Payload.{entries-part, options-part}
-use Rattle.sd_format.specs.Demand3.{LaidOut, MessageLaidOut}
+use Rattle.sd_format.specs.Demand3.{LaidOut, NoStricter, MessageLaidOut}
 use Rattle.sd_format.specs.Faults.{Stopped, NotPermitted}
 use Rattle.sd_option.specs.declared.reading.OptionHead.{OptionHead}
 use Rattle.sd_option.specs.Reading.{option-said}
@@ -68,19 +68,19 @@ told-at part at h = record { head = h; bytes = take (h .size) (drop at part) }
 abbrev pub told-found : List ℕ → Found → Told
 told-found part l = told-at part (l .offset .0) (l .head)
 
--- After the payload that `q` lays out was read with the answer `r` and the table `tab`, of so many options, and the two parts were handed out. A
--- cursor is any function that meets the promise of its `next`, from any cursor that meets the promise of its `new`.
-pub record AsLaidOut (q : Payload) (r : PayloadAnswer) (count : ℕ) (tab entries options : List ℕ) : Type 0 where
+-- After the payload that `q` lays out was read under the settings `g` with the answer `r` and the table `tab`, of so many options, and the two parts
+-- were handed out. A cursor is any function that meets the promise of its `next`, from any cursor that meets the promise of its `new`.
+pub record AsLaidOut (g : Settings) (q : Payload) (r : PayloadAnswer) (count : ℕ) (tab entries options : List ℕ) : Type 0 where
   -- the answer tells its flags and counts
   pub answer : payload-said r ≡ accepted (summary q)
   -- the parts are its entries and its options, laid out
   pub entries-part : entries ≡ lay-entries (q .entries)
   pub options-part : options ≡ lay-options (q .options)
-  -- the cursors hand out its entries and its options, one after the other, and then 20
+  -- the cursors hand out its entries and its options, one after the other, and then 20; the option cursor under any settings that ask no more
   pub entries-handed : (next : EntryCursor → EntryStep) → ((c : EntryCursor) → Stepped entries (c .at) (next c))
       → (new : EntryCursor) → new .at ≡ 0
       → HandsOut (λ c. answer-said (next c .answer)) (λ e c. next c .cursor) new (q .entries)
-  pub options-handed : (next : OptionCursor → OptionStep) → ((c : OptionCursor) → OptionStepped options (c .at .0) (next c))
+  pub options-handed : (h : Settings) → NoStricter h g → (next : OptionCursor → OptionStep) → ((c : OptionCursor) → OptionStepped h options (c .at .0) (next c))
       → (new : OptionCursor) → new .at .0 ≡ 0
       → HandsOut (λ c. given (told-at options (c .at .0)) (option-said (next c .answer))) (λ o c. next c .cursor) new (map told (q .options))
   -- looking up any number gives what counting from the front gives
@@ -94,7 +94,7 @@ pub record AsLaidOut (q : Payload) (r : PayloadAnswer) (count : ℕ) (tab entrie
 
 -- where options are refused: at one of them, or when all are read
 abbrev pub RefusedThere : Settings → (options : List ℕ) → paper.Refusal → Type 0
-RefusedThere g options q = Stopped options q ⊎ NotPermitted g options q
+RefusedThere g options q = Stopped g options q ⊎ NotPermitted g options q
 
 -- the payload `s` was read with the answer `r` and left the table `tab`
 pub record OfTheCode (g : Settings) (s tab : List ℕ) (r : PayloadAnswer) : Type 0 where
@@ -103,7 +103,7 @@ pub record OfTheCode (g : Settings) (s tab : List ℕ) (r : PayloadAnswer) : Typ
   -- and then all that is handed out is what was laid out
   pub after : (p : SdPayload) (q : Payload) → r ≡ Good p → LaidOut g s q
       → (entries options : List ℕ) → entries ≡ handed r s (entries-part s) → options ≡ handed r s (options-part s)
-      → AsLaidOut q r (p .options) tab entries options
+      → AsLaidOut g q r (p .options) tab entries options
   -- after a refusal no bytes are handed out
   pub empty : (q : Refusal) → r ≡ Refused q → (bytes part : List ℕ) → part ≡ handed r s bytes → part ≡ []
   -- and a place that it tells is the place in the options

@@ -1,6 +1,6 @@
 -- `tp::viaductle_consume` meets its contract: an accepted segment's state is put back, a refusal touches nothing. Assumes nothing.
 use mathlib.Core.Path.{refl}
-use Rattle.hub.proofs.TpLaws.{consumed, consumed-not}
+use Rattle.hub.proofs.TpLaws.{passed, consumed, consumed-not}
 use borrow.Author.Needs.{needs}
 use Rattle.hub.proofs.tp.viaductle_consume.Statement.{statement}
 use Rattle.hub.proofs.tp.viaductle_consume.Tie as tie
@@ -20,7 +20,7 @@ returns-2 c =
     let at-consume = at-told .before .before .before .before in
     let at-stream = at-consume .before .before in
     let a = at-stream .before .before .before .before .before .args in
-    consumed (a .words .now) (a .segment .now) (a .buffer .now) _ (at-stream .stream-of .ensures) _ _ (at-consume .consume .ensures) _ (c .verdict-answer2 .ensures) _ (at-told .enum-told .given .1) (at-put .put .ensures)
+    consumed (a .words .now) (a .segment .now) (a .buffer .now) _ (at-stream .stream-of .ensures) _ _ (at-consume .consume .ensures) _ (passed (at-told .enum-told .given .1) (c .accepted .ensures)) _ (at-told .enum-told .given .1) (at-put .put .ensures)
 
 pub viaductle-consume-spec : {M : Type 1} → statement M
 viaductle-consume-spec =

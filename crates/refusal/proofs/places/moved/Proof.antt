@@ -1,6 +1,6 @@
 -- `refusal::moved` meets its contract: each arm is told which case it has, and what it does to the place is what a call gave. Assumes nothing.
 use borrow.Author.Needs.{needs}
-use Rattle.refusal.proofs.Arms.{length-arm, zero-arm, configuration-arm, unknown-arm, other-arm}
+use Rattle.refusal.proofs.Arms.{length-arm, zero-arm, configuration-arm, unknown-arm, protocol-arm, other-arm}
 use Rattle.refusal.proofs.places.moved.Statement.{statement}
 use Rattle.refusal.proofs.places.moved.Tie as tie
 
@@ -17,7 +17,10 @@ returns-4 : tie.Need-returns-4
 returns-4 c = unknown-arm (c .before .before .before .before .args .by) (c .moved-place4 .ensures) (c .before .before .refusal4 .given .1)
 
 returns-5 : tie.Need-returns-5
-returns-5 c = other-arm (c .before .args .by) (c .before .args .refusal) (c .match .keys5)
+returns-5 c = protocol-arm (c .before .before .before .before .args .by) (c .moved-place5 .ensures) (c .before .before .refusal5 .given .1)
+
+returns-6 : tie.Need-returns-6
+returns-6 c = other-arm (c .before .args .by) (c .before .args .refusal) (c .match .keys6)
 
 pub moved-spec : {M : Type 1} → statement M
 moved-spec =
@@ -31,8 +34,11 @@ moved-spec =
     (λ c κs. search needs)
     (λ c. search needs)
     (λ c κs. search needs)
+    (λ c. search needs)
+    (λ c κs. search needs)
     returns
     returns-2
     returns-3
     returns-4
-    returns-5)
+    returns-5
+    returns-6)

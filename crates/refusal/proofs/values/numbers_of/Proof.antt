@@ -71,31 +71,34 @@ returns-22 : tie.Need-returns-22
 returns-22 c = arm (c .one14 .ensures) (c .before .before .refusal19 .given .1)
 
 returns-23 : tie.Need-returns-23
-returns-23 c = arm (c .none4 .ensures) (c .before .enum-told4 .given .1)
+returns-23 c = arm (c .two3 .ensures) (c .before .before .refusal20 .given .1)
 
 returns-24 : tie.Need-returns-24
-returns-24 c = arm (c .three .ensures) (c .before .before .refusal20 .given .1)
+returns-24 c = arm (c .none4 .ensures) (c .before .enum-told4 .given .1)
 
 returns-25 : tie.Need-returns-25
-returns-25 c = arm (c .two3 .ensures) (c .before .before .refusal21 .given .1)
+returns-25 c = arm (c .three .ensures) (c .before .before .refusal21 .given .1)
 
 returns-26 : tie.Need-returns-26
 returns-26 c = arm (c .two4 .ensures) (c .before .before .refusal22 .given .1)
 
 returns-27 : tie.Need-returns-27
-returns-27 c = arm (c .one15 .ensures) (c .before .before .refusal23 .given .1)
+returns-27 c = arm (c .two5 .ensures) (c .before .before .refusal23 .given .1)
 
 returns-28 : tie.Need-returns-28
-returns-28 c = arm (c .none5 .ensures) (c .before .enum-told5 .given .1)
+returns-28 c = arm (c .one15 .ensures) (c .before .before .refusal24 .given .1)
 
 returns-29 : tie.Need-returns-29
-returns-29 c = arm (c .one16 .ensures) (c .before .before .refusal24 .given .1)
+returns-29 c = arm (c .none5 .ensures) (c .before .enum-told5 .given .1)
 
 returns-30 : tie.Need-returns-30
-returns-30 c = arm (c .none6 .ensures) (c .before .enum-told6 .given .1)
+returns-30 c = arm (c .one16 .ensures) (c .before .before .refusal25 .given .1)
 
 returns-31 : tie.Need-returns-31
-returns-31 c = arm (c .none7 .ensures) (c .before .enum-told7 .given .1)
+returns-31 c = arm (c .none6 .ensures) (c .before .enum-told6 .given .1)
+
+returns-32 : tie.Need-returns-32
+returns-32 c = arm (c .none7 .ensures) (c .before .enum-told7 .given .1)
 
 pub numbers-of-spec : {M : Type 1} → statement M
 numbers-of-spec =
@@ -161,6 +164,9 @@ numbers-of-spec =
     (λ c. search needs)
     (λ c κs. search needs)
     (λ c. search needs)
+    (λ c. search needs)
+    (λ c κs. search needs)
+    (λ c. search needs)
     (λ c κs. search needs)
     (λ c. search needs)
     (λ c. search needs)
@@ -214,4 +220,5 @@ numbers-of-spec =
     returns-28
     returns-29
     returns-30
-    returns-31)
+    returns-31
+    returns-32)

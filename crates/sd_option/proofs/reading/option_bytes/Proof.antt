@@ -3,8 +3,9 @@ use mathlib.Core.Path.{sym, ap}
 use native.Mathlib.Omega.{arith}
 use borrow.Author.Needs.{needs}
 use Rattle.numbers.specs.Answers.{Answer, part, given}
-use Rattle.sd_format.specs.Kinds.{scanned}
+use Rattle.sd_format.specs.Kinds.{judge-content}
 use Rattle.sd_format.specs.Frames.{Frame}
+use Rattle.sd_option.specs.Settings.{settings-said}
 use Rattle.sd_option.specs.Reading.{body-of}
 use Rattle.sd_option.proofs.ReadingLaws.{Found, found, not-found}
 use Rattle.sd_option.proofs.reading.option_bytes.Statement.{statement}
@@ -14,11 +15,11 @@ returns : tie.Need-returns
 unfolding given
 returns c =
     let b = c .before .before .before in
-    sym (ap (λ (a : Answer Frame). part (given body-of a)) (not-found scanned _ _ (b .read-option .ensures) _ (c .before .enum-told .given .1)))
+    sym (ap (λ (a : Answer Frame). part (given body-of a)) (not-found (judge-content _) _ _ (b .read-option .ensures) _ (c .before .enum-told .given .1)))
 
 -- the option that was read
-here : (c : tie.After-known-told) → Found scanned (c .before .before .before .before .before .args .s .now) (c .before .answer .given .0 .0)
-here c = let b = c .before .before .before in found scanned _ _ (b .read-option .ensures) _ (c .before .answer .given .1)
+here : (c : tie.After-known-told) → Found (judge-content (settings-said (c .before .before .before .before .before .args .settings))) (c .before .before .before .before .before .args .s .now) (c .before .answer .given .0 .0)
+here c = let b = c .before .before .before in found (judge-content _) _ _ (b .read-option .ensures) _ (c .before .answer .given .1)
 
 sub-result-2 : tie.Need-sub-result-2
 sub-result-2 c = let t = here c in omega arith
