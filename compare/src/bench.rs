@@ -1,7 +1,8 @@
 //! Speed: reading with index beside `SdSlice::from_slice`, and joining beside `TpBuf`. Both sides in one process, in alternating passes,
 //! medians. A time says little of another machine; the ratio is what counts. Instructions, counted by an emulator, do not hang on its load.
+//! The crate has no strict setting: what reading costs under it stands beside what it costs without, over the same payloads.
 
-use crate::calls::{Calls, MOST_LIMIT, SLOTS, WORDS};
+use crate::calls::{Calls, MOST_LIMIT, SLOTS, STRICT, WORDS};
 use crate::plan::family;
 use crate::random::Random;
 use crate::tp_inputs::segment;
@@ -39,9 +40,11 @@ const BESIDE: [(&str, u64, Maker); 2] = [
     ("one short item", family::SHORT_ITEM, short_item),
 ];
 
+/// TCP or UDP, and of multicast UDP, so that a strict reading takes it.
 fn push_ipv4(r: &mut Random, code: u8, out: &mut Vec<u8>) {
     out.extend_from_slice(&[0, 9, code, 0, 192, 168, r.byte(), r.byte(), 0]);
-    out.push(r.pick(&[6, 17]));
+    let protocol = r.pick(&[6, 17]);
+    out.push(if code == 0x14 { 17 } else { protocol });
     out.extend_from_slice(&(r.next() as u16).to_be_bytes());
 }
 
@@ -256,24 +259,21 @@ fn median(values: &mut [f64]) -> f64 {
     values[values.len() / 2]
 }
 
-/// For each of `count` pieces of work: the medians of both sides over alternating passes.
-fn beside(
+/// For each of `count` pieces of work: the medians of all sides over alternating passes.
+fn beside<const SIDES: usize>(
     meter: &Meter,
     count: usize,
-    mut theirs: impl FnMut(),
-    mut ours: impl FnMut(),
-) -> (f64, f64) {
-    let measure = |work: &mut dyn FnMut()| {
-        let start = (meter.read)();
-        work();
-        ((meter.read)() - start) as f64 / count as f64
-    };
-    let (mut first, mut second) = (Vec::new(), Vec::new());
+    mut sides: [&mut dyn FnMut(); SIDES],
+) -> [f64; SIDES] {
+    let mut measured = [(); SIDES].map(|()| Vec::new());
     for _ in 0..meter.passes {
-        first.push(measure(&mut theirs));
-        second.push(measure(&mut ours));
+        for (side, passes) in sides.iter_mut().zip(&mut measured) {
+            let start = (meter.read)();
+            side();
+            passes.push(((meter.read)() - start) as f64 / count as f64);
+        }
     }
-    (median(&mut first), median(&mut second))
+    measured.map(|mut passes| median(&mut passes))
 }
 
 /// Whether two figures for the same payloads are within a tenth of each other.
@@ -281,33 +281,36 @@ fn alike(a: f64, b: f64) -> bool {
     (a - b).abs() <= b / 10.0
 }
 
-fn row(name: &str, detail: &str, (theirs, ours): (f64, f64)) {
-    println!(
-        "| {name} | {detail} | {theirs:.0} | {ours:.0} | {:.2} |",
-        ours / theirs
-    );
+/// A row without its end: theirs, ours and the ratio.
+fn print_row(name: &str, detail: &str, theirs: f64, ours: f64) {
+    let ratio = ours / theirs;
+    print!("| {name} | {detail} | {theirs:.0} | {ours:.0} | {ratio:.2} |");
 }
 
-/// Reading a list of payloads, the table lent afresh each time.
-fn reading<P: Calls>(port: &P, meter: &Meter, payloads: &[&Vec<u8>]) -> (f64, f64) {
-    beside(
-        meter,
-        payloads.len(),
-        || {
-            for payload in payloads {
-                let read = SdSlice::from_slice(black_box(payload));
-                let _ = black_box(&read);
-            }
-        },
-        || {
-            for payload in payloads {
-                let mut table = [0; SLOTS];
-                black_box(&mut table);
-                let read = port.read(black_box(payload), &mut table, 0);
-                black_box((&read, &table));
-            }
-        },
-    )
+/// A row of reading, with what is read strictly and its ratio to what is not.
+fn reading_row(name: &str, detail: &str, [theirs, ours, strict]: [f64; 3]) {
+    print_row(name, detail, theirs, ours);
+    println!(" {strict:.0} | {:.2} |", strict / ours);
+}
+
+/// Reading a list of payloads, the table lent afresh each time: the crate, the port with no setting on, and the port under the strict one.
+fn reading<P: Calls>(port: &P, meter: &Meter, payloads: &[&Vec<u8>]) -> [f64; 3] {
+    let mut theirs = || {
+        for payload in payloads {
+            let read = SdSlice::from_slice(black_box(payload));
+            let _ = black_box(&read);
+        }
+    };
+    let under = |settings: u32| {
+        for payload in payloads {
+            let mut table = [0; SLOTS];
+            black_box(&mut table);
+            let read = port.read(black_box(payload), &mut table, settings);
+            black_box((&read, &table));
+        }
+    };
+    let (mut ours, mut strict) = (|| under(0), || under(STRICT));
+    beside(meter, payloads.len(), [&mut theirs, &mut ours, &mut strict])
 }
 
 /// The segments of a report of 65,520 bytes, 1,392 in each but the last.
@@ -324,7 +327,7 @@ fn report_segments() -> Vec<Vec<u8>> {
 }
 
 /// Joining one report: the same memory each time, cleared before, taken after.
-fn joining<P: Calls>(port: &P, meter: &Meter, segments: &[&Vec<u8>]) -> (f64, f64) {
+fn joining<P: Calls>(port: &P, meter: &Meter, segments: &[&Vec<u8>]) -> [f64; 2] {
     const REPORTS: usize = 50;
     let limit = MOST_LIMIT;
     let config = TpBufConfig::new(limit as usize, limit).expect("the limit is small");
@@ -332,7 +335,7 @@ fn joining<P: Calls>(port: &P, meter: &Meter, segments: &[&Vec<u8>]) -> (f64, f6
     let mut state = [0; WORDS];
     let mut buffer = vec![0; 16 + limit as usize];
     port.begin(&mut state, limit);
-    let crate_side = || {
+    let mut crate_side = || {
         for _ in 0..REPORTS {
             theirs.clear();
             for segment in segments {
@@ -342,7 +345,7 @@ fn joining<P: Calls>(port: &P, meter: &Meter, segments: &[&Vec<u8>]) -> (f64, f6
             black_box(theirs.try_finalize().expect("complete"));
         }
     };
-    let port_side = || {
+    let mut port_side = || {
         for _ in 0..REPORTS {
             port.clear(&mut state);
             for segment in segments {
@@ -353,50 +356,52 @@ fn joining<P: Calls>(port: &P, meter: &Meter, segments: &[&Vec<u8>]) -> (f64, f6
             assert!(report.accepted());
         }
     };
-    beside(meter, REPORTS, crate_side, port_side)
+    beside(meter, REPORTS, [&mut crate_side, &mut port_side])
+}
+
+/// A payload of the mix, with its kind.
+fn one_of_the_mix(seed: u64, number: u64) -> (usize, Vec<u8>) {
+    let mut r = Random::of(seed, family::BENCH, number);
+    let mut draw = r.below(100);
+    let mut kind = 0;
+    while draw >= KINDS[kind].1 {
+        draw -= KINDS[kind].1;
+        kind += 1;
+    }
+    loop {
+        let payload = KINDS[kind].2(&mut r);
+        if payload.len() <= 1400 {
+            return (kind, payload);
+        }
+    }
 }
 
 pub fn run<P: Calls>(port: &P, meter: &Meter, seed: u64) {
     let Meter { unit, passes, .. } = meter;
-    let mut payloads = Vec::new();
-    for number in 0..PAYLOADS as u64 {
-        let mut r = Random::of(seed, family::BENCH, number);
-        let mut draw = r.below(100);
-        let mut kind = 0;
-        while draw >= KINDS[kind].1 {
-            draw -= KINDS[kind].1;
-            kind += 1;
-        }
-        let payload = loop {
-            let payload = KINDS[kind].2(&mut r);
-            if payload.len() <= 1400 {
-                break payload;
-            }
-        };
-        payloads.push((kind, payload));
-    }
+    let payloads: Vec<_> = (0..PAYLOADS as u64)
+        .map(|number| one_of_the_mix(seed, number))
+        .collect();
     println!("seed {seed}, {PAYLOADS} payloads, {passes} passes of each side in turn, medians\n");
-    println!(
-        "| payloads | number, mean bytes | crate, {unit} each | Viaductle, {unit} each | ratio |"
-    );
-    println!("|---|---|---|---|---|");
+    println!("| payloads | number, mean bytes | crate, {unit} each | Viaductle, {unit} each | ratio | strict, {unit} each | strict to not strict |");
+    println!("|---|---|---|---|---|---|---|");
     let whole: Vec<&Vec<u8>> = payloads.iter().map(|(_, payload)| payload).collect();
     let measured = reading(port, meter, &whole);
-    row("whole mix", &size(&whole), measured);
-    let mut sums = (0.0, 0.0);
+    reading_row("whole mix", &size(&whole), measured);
+    let mut sums = [0.0; 3];
     for (number, (name, ..)) in KINDS.iter().enumerate() {
         let some: Vec<&Vec<u8>> = payloads
             .iter()
             .filter(|(kind, _)| *kind == number)
             .map(|(_, payload)| payload)
             .collect();
-        let (theirs, ours) = reading(port, meter, &some);
-        row(name, &size(&some), (theirs, ours));
-        sums.0 += theirs * some.len() as f64;
-        sums.1 += ours * some.len() as f64;
+        let each = reading(port, meter, &some);
+        reading_row(name, &size(&some), each);
+        for (sum, each) in sums.iter_mut().zip(each) {
+            *sum += each * some.len() as f64;
+        }
     }
-    let weighted = (sums.0 / PAYLOADS as f64, sums.1 / PAYLOADS as f64);
-    row(
+    let weighted = sums.map(|sum| sum / PAYLOADS as f64);
+    reading_row(
         "the five kinds, weighted by number",
         &size(&whole),
         weighted,
@@ -407,9 +412,9 @@ pub fn run<P: Calls>(port: &P, meter: &Meter, seed: u64) {
             .collect();
         let some: Vec<&Vec<u8>> = made.iter().collect();
         let name = format!("{name}, not in the mix");
-        row(&name, &size(&some), reading(port, meter, &some));
+        reading_row(&name, &size(&some), reading(port, meter, &some));
     }
-    if !(alike(measured.0, weighted.0) && alike(measured.1, weighted.1)) {
+    if measured.iter().zip(weighted).any(|(a, b)| !alike(*a, b)) {
         println!("\nThe whole mix is not what its kinds add up to: do not believe it, and run again on a quiet machine.");
     }
     let segments = report_segments();
@@ -427,7 +432,9 @@ pub fn run<P: Calls>(port: &P, meter: &Meter, seed: u64) {
         ("every second, then the others", odd_even),
         ("reversed", reversed),
     ] {
-        row(name, &order.len().to_string(), joining(port, meter, &order));
+        let [theirs, ours] = joining(port, meter, &order);
+        print_row(name, &order.len().to_string(), theirs, ours);
+        println!();
     }
 }
 
@@ -439,6 +446,23 @@ fn size(payloads: &[&Vec<u8>]) -> String {
 #[cfg(test)]
 mod tests {
     use super::*;
+    use crate::calls::Settings;
+    use crate::oracle;
+
+    /// The strict setting changes no answer to a payload of the mix, so that its figures are of the same work and the check.
+    #[test]
+    fn strict_readings_answer_the_same() {
+        let answer = |payload: &[u8], settings| match oracle::read(payload, settings) {
+            Ok(sd) => oracle::read_answer(&sd),
+            Err(refusal) => refusal,
+        };
+        for number in 0..PAYLOADS as u64 {
+            let (kind, payload) = one_of_the_mix(1, number);
+            let strict = answer(&payload, Settings::STRICT);
+            assert_eq!(strict, answer(&payload, Settings::OFF));
+            assert_eq!(strict.accepted(), kind != 4);
+        }
+    }
 
     /// All kinds but the refused are accepted.
     #[test]

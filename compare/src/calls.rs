@@ -1,6 +1,8 @@
 //! The calls that are compared, with their answers as the rules' numbers and values.
 //! `port.rs` answers them by the exported functions; `sabotage.rs` by those with a fault.
 
+use std::fmt;
+
 /// As many values as an answer has at most.
 pub const VALUES: usize = 5;
 
@@ -32,7 +34,7 @@ impl Answer {
         match self.number {
             16 | 20 | 21 | 30 | 35 | 37 | 38 => 0,
             1..=5 | 8 | 11 | 13..=15 | 17..=19 | 22 | 34 | 36 => 1,
-            6 | 10 | 32 | 33 => 2,
+            6 | 10 | 23 | 32 | 33 => 2,
             31 => 3,
             9 => match self.values[0] {
                 1 => 2,
@@ -44,9 +46,14 @@ impl Answer {
         }
     }
 
-    /// The place that 7 to 10 tell: the last of their values.
+    /// Whether this number comes with a byte place: the refusals of an option do.
+    pub fn tells_place(self) -> bool {
+        matches!(self.number, 7..=10 | 23)
+    }
+
+    /// The place that is told: the last of the values.
     pub fn place(&mut self) -> Option<&mut u64> {
-        if !(7..=10).contains(&self.number) {
+        if !self.tells_place() {
             return None;
         }
         let last = self.value_count() - 1;
@@ -112,6 +119,60 @@ pub struct Places {
 
 /// The bit of the settings by which unknown options pass though they may not be discarded.
 pub const DISCARD: u32 = 0x1;
+/// The bit by which an option with an address is refused for its transport protocol.
+pub const STRICT: u32 = 0x2;
+
+/// The settings of a reading, by name.
+#[derive(Clone, Copy, Debug, PartialEq, Eq, PartialOrd, Ord)]
+pub struct Settings {
+    pub strict: bool,
+    pub discard: bool,
+}
+
+impl Settings {
+    pub const OFF: Settings = Settings::of(0);
+    pub const STRICT: Settings = Settings::of(STRICT);
+    pub const ALL: [Settings; 4] = [
+        Settings::OFF,
+        Settings::of(DISCARD),
+        Settings::STRICT,
+        Settings::of(DISCARD | STRICT),
+    ];
+
+    /// Those of a word, whose other bits are ignored.
+    pub const fn of(word: u32) -> Settings {
+        Settings {
+            strict: word & STRICT != 0,
+            discard: word & DISCARD != 0,
+        }
+    }
+
+    /// The same, not strict.
+    pub fn lenient(self) -> Settings {
+        Settings {
+            strict: false,
+            ..self
+        }
+    }
+
+    pub fn word(self) -> u32 {
+        let discard = if self.discard { DISCARD } else { 0 };
+        let strict = if self.strict { STRICT } else { 0 };
+        discard | strict
+    }
+}
+
+impl fmt::Display for Settings {
+    fn fmt(&self, f: &mut fmt::Formatter<'_>) -> fmt::Result {
+        f.write_str(match (self.discard, self.strict) {
+            (false, false) => "no setting on",
+            (true, false) => "discard",
+            (false, true) => "strict",
+            (true, true) => "discard and strict",
+        })
+    }
+}
+
 /// The slots of a table that a reading fills.
 pub const SLOTS: usize = 347;
 /// The words of a stream's state: limit, count of ranges, whether an end is known, the end, 32 pairs of start and end.
@@ -123,10 +184,10 @@ pub const MOST_LIMIT: u32 = 65_520;
 pub trait Calls: Sync {
     fn read(&self, payload: &[u8], table: &mut [u16], settings: u32) -> Answer;
     fn read_message(&self, message: &[u8], table: &mut [u16], settings: u32) -> Answer;
-    fn index(&self, options: &[u8], table: &mut [u16]) -> Answer;
+    fn index(&self, options: &[u8], table: &mut [u16], settings: u32) -> Answer;
     fn parts(&self, payload: &[u8], answer: Answer) -> Places;
     fn lookup(&self, options: &[u8], table: &[u16], count: usize, ordinal: usize) -> Answer;
-    fn next_option(&self, options: &[u8], at: usize) -> Answer;
+    fn next_option(&self, options: &[u8], at: usize, settings: u32) -> Answer;
     fn next_of_run(
         &self,
         options: &[u8],
@@ -138,7 +199,7 @@ pub trait Calls: Sync {
     fn string(&self, string: &[u8]) -> Answer;
     fn next_item(&self, string: &[u8], at: usize) -> Answer;
     fn next_entry(&self, entries: &[u8], at: usize) -> Entry;
-    fn read_option(&self, option: &[u8]) -> Opt;
+    fn read_option(&self, option: &[u8], settings: u32) -> Opt;
 
     fn begin(&self, state: &mut [u32], limit: u32) -> Answer;
     fn consume(&self, state: &mut [u32], segment: &[u8], buffer: &mut [u8]) -> Answer;

@@ -1,7 +1,7 @@
 //! Seeded inputs for the service discovery side: payloads of many families, messages with SD header, options parts, strings, and the
 //! exhaustive short ones. An input is a function of the seed, its family and its number, so that each can be made again.
 
-use crate::places::Cause;
+use crate::places::{self, Cause};
 use crate::random::Random;
 use someip_parse::sd::entries::{EventGroupEntryType, SdServiceEntryType};
 use someip_parse::sd::options::*;
@@ -196,21 +196,143 @@ fn push_bad_option(r: &mut Random, out: &mut Vec<u8>) {
             damaged_string(r, &mut string);
             push_configuration(r, &string, out)
         }
-        _ => {
-            let (code, length) = (unknown_type(r), r.between(1, 12));
-            let first = r.byte() & 0x7f;
-            push_option(r, code, length, first, out)
+        _ => push_unknown_option(r, out),
+    }
+}
+
+/// One option of unknown type that may not be discarded.
+fn push_unknown_option(r: &mut Random, out: &mut Vec<u8>) {
+    let (code, length) = (unknown_type(r), r.between(1, 12));
+    let first = r.byte() & 0x7f;
+    push_option(r, code, length, first, out)
+}
+
+// ---- transport protocols, which the options above leave to chance: some two in 256 are TCP or UDP
+
+const TCP: u8 = 0x06;
+const UDP: u8 = 0x11;
+
+/// The kinds with an address, as in `KINDS`.
+fn addressed_kinds() -> &'static [(u8, usize)] {
+    &KINDS[2..]
+}
+
+fn is_multicast(code: u8) -> bool {
+    code == 0x14 || code == 0x16
+}
+
+/// One that a strict reading takes in this type.
+fn good_protocol(r: &mut Random, code: u8) -> u8 {
+    if is_multicast(code) {
+        UDP
+    } else {
+        r.pick(&[TCP, UDP])
+    }
+}
+
+/// One that is neither TCP nor UDP, one time in two a bit or a step away from them, or the counterfeit unit's 0x99.
+fn other_protocol(r: &mut Random) -> u8 {
+    loop {
+        let protocol = if r.once_in(2) {
+            r.pick(&[
+                0x00, 0x01, 0x05, 0x07, 0x10, 0x12, 0x16, 0x84, 0x86, 0x91, 0x99, 0x99, 0xff,
+            ])
+        } else {
+            r.byte()
+        };
+        if protocol != TCP && protocol != UDP {
+            return protocol;
         }
     }
 }
 
+/// One that a strict reading refuses in this type.
+fn wrong_protocol(r: &mut Random, code: u8) -> u8 {
+    if is_multicast(code) && r.once_in(2) {
+        TCP
+    } else {
+        other_protocol(r)
+    }
+}
+
+/// One option with an address, with this protocol.
+fn push_addressed(r: &mut Random, code: u8, protocol: u8, out: &mut Vec<u8>) {
+    let length = addressed_kinds().iter().find(|kind| kind.0 == code);
+    let length = length.expect("a kind with an address").1;
+    let (start, first) = (out.len(), r.byte());
+    push_option(r, code, length, first, out);
+    set_protocols(&mut out[start..], |_| protocol);
+}
+
+/// Gives each option with an address another protocol, as far as the options' lengths lead.
+fn set_protocols(options: &mut [u8], mut choose: impl FnMut(u8) -> u8) {
+    let mut at = 0;
+    while at + 3 <= options.len() {
+        let length = 256 * usize::from(options[at]) + usize::from(options[at + 1]);
+        let code = options[at + 2];
+        // The third byte from the option's end, in front of the port.
+        let place = at + length;
+        if addressed_kinds().contains(&(code, length)) && place < options.len() {
+            options[place] = choose(code);
+        }
+        at += 3 + length;
+    }
+}
+
+/// Protocols that a strict reading takes.
+pub fn mend_protocols(r: &mut Random, options: &mut [u8]) {
+    set_protocols(options, |code| good_protocol(r, code));
+}
+
+/// Protocols for a strict reading of some options: two times in five it takes all, two times it refuses one in three; else they stay as they are.
+pub fn vary_protocols(r: &mut Random, options: &mut [u8]) {
+    match r.below(5) {
+        0 | 1 => mend_protocols(r, options),
+        2 | 3 => set_protocols(options, |code| {
+            if r.once_in(3) {
+                wrong_protocol(r, code)
+            } else {
+                good_protocol(r, code)
+            }
+        }),
+        _ => {}
+    }
+}
+
+/// The same in a payload, if its entries' length leads to its options.
+pub fn vary_protocols_of_payload(r: &mut Random, payload: &mut [u8]) {
+    let Some(options) = places::options_part(payload).map(<[u8]>::len) else {
+        return;
+    };
+    let start = payload.len() - options;
+    vary_protocols(r, &mut payload[start..]);
+}
+
+/// Protocols for a strict reading of options of which the one at `start` is refused for something else: in front of it all are taken, and behind it
+/// every second time, else they stay as they are.
+pub fn protocols_around(r: &mut Random, options: &mut [u8], start: usize) {
+    mend_protocols(r, &mut options[..start]);
+    if r.once_in(2) {
+        mend_protocols(r, &mut options[start..]);
+    }
+}
+
+// ---- options of which one is refused
+
 /// An options part that is refused for one option, for this cause: in front of all, or behind one to four good ones. Returns where it begins.
-/// For 10 the part itself is good, and a payload of it is refused.
+/// For 10 the part itself is good, and a payload of it is refused. For 23 it is a strict reading that refuses it; in front of that option stands
+/// nothing else that such a reading refuses at once, but at times an unknown one for which 10 would come.
 pub fn refused_option(r: &mut Random, cause: Cause, out: &mut Vec<u8>) -> usize {
     out.clear();
     if !r.once_in(2) {
         for _ in 0..r.between(1, 4) {
             push_good_option(r, out);
+        }
+        if cause.number() == 23 {
+            if r.once_in(4) {
+                push_unknown_option(r, out);
+            }
+            mend_protocols(r, out);
         }
     }
     let start = out.len();
@@ -244,11 +366,12 @@ pub fn refused_option(r: &mut Random, cause: Cause, out: &mut Vec<u8>) -> usize 
             bad_string(r, error, &mut string);
             push_configuration(r, &string, out);
         }
-        Cause::Unknown => {
-            let (code, length) = (unknown_type(r), r.between(1, 12));
-            let first = r.byte() & 0x7f;
-            push_option(r, code, length, first, out);
+        Cause::Unknown => push_unknown_option(r, out),
+        Cause::OtherProtocol(code) => {
+            let protocol = other_protocol(r);
+            push_addressed(r, code, protocol, out);
         }
+        Cause::MulticastTcp(code) => push_addressed(r, code, TCP, out),
     }
     for _ in 0..r.below(3) {
         if cause == Cause::Unknown || r.once_in(2) {
@@ -268,6 +391,13 @@ pub fn payload_of(r: &mut Random, options: &[u8], out: &mut Vec<u8>) {
         push_entry(r, 1, false, &mut entries);
     }
     lay(r, &entries, options, out)
+}
+
+/// Gives the first entry of such a payload, if it has one, an unknown type.
+pub fn spoil_entry(r: &mut Random, payload: &mut [u8]) {
+    if payload[7] > 0 {
+        payload[8] = unknown_entry_type(r);
+    }
 }
 
 /// Puts a good header in front of a payload.
@@ -327,6 +457,10 @@ fn push_entry(r: &mut Random, options: usize, inside: bool, out: &mut Vec<u8>) {
     let code = r.pick(&[0x00, 0x01, 0x01, 0x01, 0x06, 0x06, 0x07]);
     out.extend_from_slice(&[code, start1, start2, (count1 << 4) | count2]);
     r.bytes(12, out);
+}
+
+fn unknown_entry_type(r: &mut Random) -> u8 {
+    r.pick(&[0x02, 0x03, 0x04, 0x05, 0x08, 0x77, 0xff])
 }
 
 /// Flags, both lengths as they are, entries, options.
@@ -395,7 +529,7 @@ fn mixed(r: &mut Random, out: &mut Vec<u8>) {
         push_entry(r, count, inside, &mut entries);
         if r.once_in(8) {
             let at = entries.len() - 16;
-            entries[at] = r.pick(&[0x02, 0x03, 0x04, 0x05, 0x08, 0x77, 0xff]);
+            entries[at] = unknown_entry_type(r);
         }
     }
     lay(r, &entries, &options, out)
@@ -666,6 +800,12 @@ pub fn payload(r: &mut Random, out: &mut Vec<u8>) -> usize {
     number
 }
 
+/// A payload of the well-formed family.
+pub fn well_formed(r: &mut Random, out: &mut Vec<u8>) {
+    out.clear();
+    tidy(r, out);
+}
+
 /// A header of service discovery in front of so many bytes.
 fn good_header(r: &mut Random, payload: usize) -> [u8; 16] {
     let mut header = [0xff, 0xff, 0x81, 0x00, 0, 0, 0, 0, 0, 0, 0, 1, 1, 1, 2, 0];
@@ -840,6 +980,28 @@ pub fn nth_option(n: usize, out: &mut Vec<u8>) {
     out.truncate(total);
 }
 
+/// How many options `nth_addressed` has.
+pub const ADDRESSED_OPTIONS: usize = 6 * 256;
+
+/// Every kind with an address with every transport protocol. Every other byte behind the type is the protocol's complement, so that a reading of
+/// another byte shows.
+pub fn nth_addressed(n: usize, out: &mut Vec<u8>) {
+    out.clear();
+    let ((code, length), protocol) = (addressed_kinds()[n / 256], n as u8);
+    out.extend_from_slice(&[0, length as u8, code]);
+    out.resize(3 + length, !protocol);
+    set_protocols(out, |_| protocol);
+}
+
+/// A payload of these options, with an offer whose first run is all of them.
+pub fn offered(options: &[u8], count: u8, out: &mut Vec<u8>) {
+    out.clear();
+    out.extend_from_slice(&[0xc0, 0, 0, 0, 0, 0, 0, 16, 0x01, 0, 0, count << 4]);
+    out.extend((0..12).map(|i| 17 * i));
+    out.extend_from_slice(&(options.len() as u32).to_be_bytes());
+    out.extend_from_slice(options);
+}
+
 /// How many entries `nth_entry` has.
 pub const SHORT_ENTRIES: usize = 256 * 16 * 256 + 256 * 34;
 
@@ -863,7 +1025,8 @@ pub fn nth_entry(n: usize, out: &mut Vec<u8>) {
 #[cfg(test)]
 mod tests {
     use super::*;
-    use crate::{oracle, places};
+    use crate::calls::Settings;
+    use crate::oracle;
 
     #[test]
     fn same_seed_same_payload() {
@@ -888,7 +1051,7 @@ mod tests {
             for n in 0..2000 {
                 let mut out = Vec::new();
                 make(&mut Random::of(3, number as u64, n), &mut out);
-                accepted += usize::from(oracle::read(&out, false).is_ok());
+                accepted += usize::from(oracle::read(&out, Settings::OFF).is_ok());
             }
             match *name {
                 "well-formed" | "written by the crate's SdHeader" => assert_eq!(accepted, 2000),
@@ -905,7 +1068,11 @@ mod tests {
         let mut out = Vec::new();
         for n in 0..200_000 {
             payload(&mut Random::of(5, 0, n), &mut out);
-            if let Err(answer) = oracle::read(&out, n % 2 == 0) {
+            let settings = Settings {
+                discard: n % 2 == 0,
+                ..Settings::OFF
+            };
+            if let Err(answer) = oracle::read(&out, settings) {
                 seen[answer.number as usize] = true;
                 if answer.number == 9 {
                     strings[answer.values[0] as usize] = true;
@@ -920,7 +1087,11 @@ mod tests {
     #[test]
     fn refused_options_are_what_they_say() {
         let (mut options, mut out) = (Vec::new(), Vec::new());
-        for cause in Cause::ALL {
+        for cause in Cause::PLAIN.into_iter().chain(Cause::STRICT) {
+            let settings = Settings {
+                strict: cause.number() == 23,
+                ..Settings::OFF
+            };
             let mut first = 0;
             for n in 0..1000 {
                 let mut r = Random::of(6, cause.number(), n);
@@ -930,18 +1101,66 @@ mod tests {
                     fault.map(|fault| (fault.cause, fault.option)) == Some((cause, start))
                 };
                 payload_of(&mut r, &options, &mut out);
-                assert!(is(places::in_payload(&out, false)), "{cause}: {out:02x?}");
-                let said = oracle::read(&out, false).err().map(|said| said.number);
+                let found = places::in_payload(&out, settings);
+                assert!(is(found), "{cause}: {out:02x?}");
+                let said = oracle::read(&out, settings).err().map(|said| said.number);
                 assert_eq!(said, Some(cause.number()));
-                let alone = places::in_option(&options[start..]);
+                let alone = places::in_option(&options[start..], settings);
                 assert_eq!(alone.is_some(), cause != Cause::Unknown);
-                assert_eq!(is(places::in_options(&options)), cause != Cause::Unknown);
+                let found = places::in_options(&options, settings);
+                assert_eq!(is(found), cause != Cause::Unknown);
                 message_of(&mut r, &mut out);
-                let said = oracle::read_message(&out, false).map(|said| said.err());
+                let said = oracle::read_message(&out, settings).map(|said| said.err());
                 assert_eq!(said.flatten().map(|said| said.number), Some(cause.number()));
             }
             assert!((400..600).contains(&first), "{cause}: {first}");
         }
+    }
+
+    /// Mended protocols are taken; varied ones are refused at times, for each cause; and nothing but the protocols is changed.
+    #[test]
+    fn protocols_are_what_they_say() {
+        let mut causes = std::collections::BTreeMap::new();
+        let (mut accepted, mut out) = (0, Vec::new());
+        for n in 0..20_000 {
+            let mut r = Random::of(8, 0, n);
+            well_formed(&mut r, &mut out);
+            let before = out.clone();
+            vary_protocols_of_payload(&mut r, &mut out);
+            let changed = before.iter().zip(&out).filter(|(a, b)| a != b).count();
+            assert!(before.len() == out.len() && changed <= 6);
+            assert!(oracle::read(&out, Settings::OFF).is_ok());
+            match oracle::read(&out, Settings::STRICT) {
+                Ok(_) => accepted += 1,
+                Err(refusal) => assert_eq!(refusal.number, 23),
+            }
+            if let Some(fault) = places::in_payload(&out, Settings::STRICT) {
+                *causes.entry(fault.cause).or_insert(0) += 1;
+            }
+            let start = out.len() - places::options_part(&out).unwrap().len();
+            mend_protocols(&mut r, &mut out[start..]);
+            assert!(oracle::read(&out, Settings::STRICT).is_ok());
+        }
+        assert!((8_000..14_000).contains(&accepted), "{accepted}");
+        for cause in Cause::STRICT {
+            assert!(causes[&cause] > 20, "{cause}: {}", causes[&cause]);
+        }
+    }
+
+    #[test]
+    fn addressed_options_are_all() {
+        let (mut out, mut payload) = (Vec::new(), Vec::new());
+        let mut taken = 0;
+        for n in 0..ADDRESSED_OPTIONS {
+            nth_addressed(n, &mut out);
+            offered(&out, 1, &mut payload);
+            assert!(oracle::read(&payload, Settings::OFF).is_ok());
+            taken += usize::from(oracle::read(&payload, Settings::STRICT).is_ok());
+            let option = oracle::read_option(&out, Settings::OFF);
+            assert_eq!(option.protocol as usize, n % 256);
+        }
+        // TCP and UDP in four kinds, UDP in two.
+        assert_eq!(taken, 10);
     }
 
     #[test]

@@ -37,7 +37,7 @@ const USAGE: &str = "\
 compare [--quick] [--count N] [--sequences N] [--seed S] [--threads N]
         compare; N seeded payloads and messages (5,100,000) and N seeded sequences of segments (500,000), beside the exhaustive ones
 compare --sabotage      a fault at a time in the port: each must be noticed
-compare --bench         speed beside the crate
+compare --bench         speed beside the crate, and of strict readings beside those that are not
 compare --instructions  the same in instructions, under an emulator that counts them (count.c)
 compare --record DIR    write the crate's answers for replay; needs no port
 ";

@@ -1,8 +1,8 @@
 //! What the crate someip_parse says, as the rules' numbers and values; one function for each call.
 //! Nothing is judged here: errors are renamed, and slices become the places where they lie. The byte place of 7 to 10, which the crate does not
-//! tell, is what `places.rs` finds.
+//! tell, is what `places.rs` finds; and under the strict setting, which the crate has not, its answer is followed by what `places.rs` refuses.
 
-use crate::calls::{Answer, Entry, Opt, Places, NOTHING, SLOTS};
+use crate::calls::{Answer, Entry, Opt, Places, Settings, NOTHING, SLOTS};
 use crate::places::{self, Cause, Fault};
 use someip_parse::err::{LenError, LenSource, SdError, SdOptionSliceError, SdSliceError};
 use someip_parse::sd::entries::U4;
@@ -124,28 +124,57 @@ fn with_place(mut said: Answer, walk: impl FnOnce() -> Option<Fault>) -> Answer 
     said
 }
 
+/// What is answered under the settings: the crate's answer, and where they are strict the comparison's own check behind it. The first option whose
+/// protocol is wrong is refused by 23, unless the crate refused something that comes before it: sizes or a header, or an option in front, at which
+/// the walk stops too. Where the walk stops at an option that the crate took, the two are no answer.
+fn strictly<T>(
+    said: Result<T, Answer>,
+    settings: Settings,
+    options: &[u8],
+    walk: fn(&[u8], Settings) -> Option<Fault>,
+) -> Result<T, Answer> {
+    let number = said.as_ref().err().map_or(0, |refusal| refusal.number);
+    let options_judged = matches!(number, 0 | 7..=12);
+    if !settings.strict || !options_judged {
+        return said;
+    }
+    match walk(options, settings) {
+        Some(fault) if fault.cause.number() == 23 => {
+            let protocol = options[fault.place];
+            Err(Answer::new(23, &[protocol.into(), wide(fault.place)]))
+        }
+        Some(_) if !(7..=9).contains(&number) => Err(Answer::new(UNEXPECTED, &[])),
+        _ => said,
+    }
+}
+
 // ---- payload, message, index
 
 /// The reading of a payload, or its refusal.
-pub fn read(payload: &[u8], discard: bool) -> Result<SdSlice<'_>, Answer> {
-    SdSlice::from_slice_with_flag(payload, discard)
-        .map_err(|error| payload_refusal(&error, payload, discard))
+pub fn read(payload: &[u8], settings: Settings) -> Result<SdSlice<'_>, Answer> {
+    let said = SdSlice::from_slice_with_flag(payload, settings.discard);
+    payload_answer(said, payload, settings)
 }
 
-fn payload_refusal(error: &SdSliceError, payload: &[u8], discard: bool) -> Answer {
-    with_place(slice_error(error), || places::in_payload(payload, discard))
+fn payload_answer<'a>(
+    said: Result<SdSlice<'a>, SdSliceError>,
+    payload: &[u8],
+    settings: Settings,
+) -> Result<SdSlice<'a>, Answer> {
+    let walk = || places::in_payload(payload, settings.lenient());
+    let said = said.map_err(|error| with_place(slice_error(&error), walk));
+    let options = places::options_part(payload).unwrap_or(&[]);
+    strictly(said, settings, options, places::in_options)
 }
 
 /// The reading of a message with SD header; `None` where `SomeipMsgSlice` does not accept the message whole, and nothing is compared.
-pub fn read_message(message: &[u8], discard: bool) -> Option<Result<SdSlice<'_>, Answer>> {
+pub fn read_message(message: &[u8], settings: Settings) -> Option<Result<SdSlice<'_>, Answer>> {
     let header = SomeipMsgSlice::from_slice(message).ok()?;
     if header.slice().len() != message.len() {
         return None;
     }
-    Some(
-        SdSlice::from_someip_with_flag(&header, discard)
-            .map_err(|error| payload_refusal(&error, &message[16..], discard)),
-    )
+    let said = SdSlice::from_someip_with_flag(&header, settings.discard);
+    Some(payload_answer(said, &message[16..], settings))
 }
 
 /// The answer to an accepted payload: the three flags, the numbers of entries and of options.
@@ -159,9 +188,11 @@ pub fn read_answer(sd: &SdSlice) -> Answer {
 }
 
 /// The index over an options part, or its refusal.
-pub fn index(options: &[u8]) -> Result<SdOptionsIndex<'_>, Answer> {
-    SdOptionsIndex::from_slice(options)
-        .map_err(|error| with_place(option_error(&error), || places::in_options(options)))
+pub fn index(options: &[u8], settings: Settings) -> Result<SdOptionsIndex<'_>, Answer> {
+    let walk = || places::in_options(options, Settings::OFF);
+    let said =
+        SdOptionsIndex::from_slice(options).map_err(|error| with_place(option_error(&error), walk));
+    strictly(said, settings, options, places::in_options)
 }
 
 /// What the 347 slots hold after an accepted reading: where the crate's own lookup finds each option, then zeros.
@@ -256,15 +287,23 @@ pub fn lookup_in(options: &[u8], table: &[u16], count: usize, ordinal: usize) ->
     }
 }
 
+/// The option in front of some bytes, or its refusal.
+fn one_option(bytes: &[u8], settings: Settings) -> Result<SdOptionSlice<'_>, Answer> {
+    let walk = || places::in_option(bytes, Settings::OFF);
+    let said = SdOptionSlice::from_slice(bytes)
+        .map(|(option, _)| option)
+        .map_err(|error| with_place(option_error(&error), walk));
+    strictly(said, settings, bytes, places::in_option)
+}
+
 /// The option at `at`, as a cursor reads it.
-pub fn next_option(options: &[u8], at: usize) -> Answer {
+pub fn next_option(options: &[u8], at: usize, settings: Settings) -> Answer {
     if at >= options.len() {
         return NOTHING;
     }
-    let rest = &options[at..];
-    match SdOptionSlice::from_slice(rest) {
-        Ok((option, _)) => placed(options, &option),
-        Err(error) => with_place(option_error(&error), || places::in_option(rest)),
+    match one_option(&options[at..], settings) {
+        Ok(option) => placed(options, &option),
+        Err(answer) => answer,
     }
 }
 
@@ -317,12 +356,12 @@ pub fn next_item(string: &[u8], at: usize) -> Answer {
 }
 
 /// The option in front of some bytes with all its fields.
-pub fn read_option(bytes: &[u8]) -> Opt {
-    let option = match SdOptionSlice::from_slice(bytes) {
-        Ok((option, _)) => option,
-        Err(error) => {
+pub fn read_option(bytes: &[u8], settings: Settings) -> Opt {
+    let option = match one_option(bytes, settings) {
+        Ok(option) => option,
+        Err(answer) => {
             return Opt {
-                answer: with_place(option_error(&error), || places::in_option(bytes)),
+                answer,
                 ..Opt::default()
             }
         }
@@ -424,6 +463,7 @@ fn entry_fields(entry: &SdEntrySlice) -> Entry {
 #[cfg(test)]
 mod tests {
     use super::*;
+    use crate::calls::{DISCARD, STRICT};
 
     fn hex(text: &str) -> Vec<u8> {
         let digits: Vec<u8> = text.bytes().filter(|b| *b != b' ').collect();
@@ -433,11 +473,15 @@ mod tests {
             .collect()
     }
 
-    fn said(payload: &[u8], discard: bool) -> Answer {
-        match read(payload, discard) {
+    fn said_under(payload: &[u8], settings: Settings) -> Answer {
+        match read(payload, settings) {
             Ok(sd) => read_answer(&sd),
             Err(answer) => answer,
         }
+    }
+
+    fn said(payload: &[u8], discard: bool) -> Answer {
+        said_under(payload, Settings::of(if discard { DISCARD } else { 0 }))
     }
 
     /// The rules, 'Both sides of each line': payloads.
@@ -469,11 +513,12 @@ mod tests {
         assert_eq!(said(&unknown(0), false), Answer::new(10, &[0x77, 3]));
         assert_eq!(said(&unknown(0), true), Answer::new(0, &[0, 0, 1]));
         let many = [0, 1, 0x77, 0x80].repeat(347);
-        assert_eq!(index(&many).unwrap().len(), 347);
-        assert_eq!(
-            index(&[0, 1, 0x77, 0x80].repeat(348)).unwrap_err(),
-            Answer::new(13, &[1392])
-        );
+        for settings in Settings::ALL {
+            assert_eq!(index(&many, settings).unwrap().len(), 347);
+            let more = [0, 1, 0x77, 0x80].repeat(348);
+            let refused = index(&more, settings).unwrap_err();
+            assert_eq!(refused, Answer::new(13, &[1392]));
+        }
     }
 
     /// The rules, 'Both sides of each line': strings.
@@ -494,6 +539,39 @@ mod tests {
         assert!(string(&hex("03413DFF00")).accepted());
     }
 
+    /// The option of `options` at `front` is refused in each call that reads it, with the place as that call counts it.
+    fn refused_in_each_call(
+        options: &[u8],
+        front: usize,
+        settings: Settings,
+        answer: impl Fn(u64) -> Answer,
+        place: u64,
+    ) {
+        let alone = &options[front..];
+        assert_eq!(read_option(alone, settings).answer, answer(place));
+        assert_eq!(next_option(options, front, settings), answer(place));
+        let place = place + front as u64;
+        assert_eq!(index(options, settings).unwrap_err(), answer(place));
+        let payload = payload_of(options);
+        assert_eq!(read(&payload, settings).unwrap_err(), answer(place));
+        let message = message_of(&payload);
+        let refused = read_message(&message, settings).unwrap().unwrap_err();
+        assert_eq!(refused, answer(place));
+    }
+
+    /// A payload of these options without entries.
+    fn payload_of(options: &[u8]) -> Vec<u8> {
+        let length = (options.len() as u32).to_be_bytes();
+        [&[0; 8][..], &length, options].concat()
+    }
+
+    fn message_of(payload: &[u8]) -> Vec<u8> {
+        let mut message = hex("FFFF8100 00000000 00000001 01010200");
+        message[7] = 8 + payload.len() as u8;
+        message.extend(payload);
+        message
+    }
+
     /// One bad option in front and behind another, as each call counts its place.
     #[test]
     fn places_by_call() {
@@ -512,25 +590,87 @@ mod tests {
         ] {
             let option = hex(text);
             let answer = |place| Answer::new(number, &[values, &[place]].concat());
-            assert_eq!(read_option(&option).answer, answer(place), "{text}");
-            for front in [0, 4] {
+            for (front, settings) in [0, 4]
+                .into_iter()
+                .flat_map(|front| Settings::ALL.map(|settings| (front, settings)))
+            {
                 let options = [&good[..front], &option].concat();
-                assert_eq!(next_option(&options, front), answer(place), "{text}");
-                let place = place + front as u64;
-                assert_eq!(index(&options).unwrap_err(), answer(place), "{text}");
-                let lengths = [&[0; 8][..], &(options.len() as u32).to_be_bytes()].concat();
-                let payload = [lengths, options].concat();
-                assert_eq!(read(&payload, true).unwrap_err(), answer(place), "{text}");
-                let mut message = hex("FFFF8100 00000000 00000001 01010200");
-                message[7] = 8 + payload.len() as u8;
-                message.extend(&payload);
-                let refused = read_message(&message, false).unwrap().unwrap_err();
-                assert_eq!(refused, answer(place), "{text}");
+                refused_in_each_call(&options, front, settings, answer, place);
             }
         }
         let item = |at| next_item(&hex("01410541"), at);
         assert_eq!(item(2), Answer::new(9, &[2, 2, 5, 1, 2]));
         assert_eq!(item(0), Answer::new(0, &[1, 1]));
+    }
+
+    /// The strict setting: the crate's answer stands where it refused something before, else 23 does.
+    #[test]
+    fn strict_answers() {
+        let counterfeit = hex("00090400 C0A80101 00991F90");
+        let tcp = hex("00151600 FF020000 00000000 00000000 00000001 00067530");
+        let (good, unknown, zero) = (hex("00017780"), hex("00017700"), hex("000077"));
+        let under = |options: &[u8], word| said_under(&payload_of(options), Settings::of(word));
+        for (option, protocol, place) in [(&counterfeit, 0x99, 9), (&tcp, 0x06, 21)] {
+            let answer = |place| Answer::new(23, &[protocol, place]);
+            for front in [0, 4] {
+                let options = [&good[..front], option].concat();
+                refused_in_each_call(&options, front, Settings::STRICT, answer, place);
+                // In front of 8 and of 10, wherever that option stands; behind 8 of an option in front.
+                let place = place + front as u64;
+                let late = [&options[..], &zero, &unknown].concat();
+                assert_eq!(under(&late, STRICT), answer(place));
+                let early = [&zero[..], &options].concat();
+                assert_eq!(under(&early, STRICT), Answer::new(8, &[0]));
+                let early = [&unknown[..], &options].concat();
+                assert_eq!(under(&early, STRICT), answer(place + 4));
+                assert_eq!(under(&early, 0), Answer::new(10, &[0x77, 3]));
+                // In front of 11; behind 6 and a header's 16.
+                let entry = [&[0, 0, 0, 0, 0, 0, 0, 16, 5][..], &[0; 15]].concat();
+                let payload = [&entry[..], &payload_of(&options)[8..]].concat();
+                assert_eq!(said_under(&payload, Settings::STRICT), answer(place));
+                assert_eq!(said_under(&payload, Settings::OFF).number, 11);
+                let mut payload = payload_of(&options);
+                payload.push(0);
+                assert_eq!(said_under(&payload, Settings::STRICT).number, 6);
+                let mut message = message_of(&payload_of(&options));
+                message[11] = 0;
+                let refused = read_message(&message, Settings::STRICT).unwrap();
+                assert_eq!(refused.unwrap_err().number, 16);
+            }
+            assert_eq!(under(option, 0), Answer::new(0, &[0, 0, 1]));
+            assert_eq!(under(option, DISCARD | STRICT), answer(place));
+            let mut mended = option.clone();
+            mended[place as usize] = 0x11;
+            assert_eq!(under(&mended, STRICT), Answer::new(0, &[0, 0, 1]));
+        }
+    }
+
+    /// A walk that stops at an option which the crate takes leaves no answer under the strict setting; with it off no such walk is made.
+    #[test]
+    fn strict_and_no_answer() {
+        let stops = |_: &[u8], _| {
+            Some(Fault {
+                cause: Cause::LengthZero,
+                option: 0,
+                place: 0,
+            })
+        };
+        let took = |settings, number| {
+            let said = match number {
+                0 => Ok(()),
+                _ => Err(Answer::new(number, &[])),
+            };
+            strictly(said, settings, &[], stops).map_or_else(|answer| answer.number, |()| 0)
+        };
+        for number in [0, 10, 11, 12] {
+            assert_eq!(took(Settings::STRICT, number), UNEXPECTED);
+        }
+        for number in (1..=9).chain(13..=19) {
+            assert_eq!(took(Settings::STRICT, number), number);
+        }
+        for number in 0..=19 {
+            assert_eq!(took(Settings::OFF, number), number);
+        }
     }
 
     /// A walk that finds nothing, or something else than the crate, leaves no answer.
@@ -544,7 +684,7 @@ mod tests {
                 place,
             })
         };
-        let causes = Cause::ALL.map(|cause| (cause, fault(cause)));
+        let causes = Cause::PLAIN.map(|cause| (cause, fault(cause)));
         for (cause, _) in causes {
             let number = cause.number();
             let first = match cause {
@@ -577,19 +717,22 @@ mod tests {
         for n in 0..100_000 {
             let mut r = crate::random::Random::of(7, 0, n);
             let discard = r.once_in(2);
+            let off = Settings::OFF;
             crate::inputs::payload(&mut r, &mut out);
             let walked = match said(&out, discard).number {
                 1..=6 => continue,
                 number => (7..=10).contains(&number),
             };
-            assert_eq!(places::in_payload(&out, discard).is_some(), walked);
+            let settings = Settings { discard, ..off };
+            assert_eq!(places::in_payload(&out, settings).is_some(), walked);
             crate::inputs::options(&mut r, &mut out);
             if out.len() <= 1388 {
-                assert_eq!(places::in_options(&out).is_some(), index(&out).is_err());
+                let refused = index(&out, off).is_err();
+                assert_eq!(places::in_options(&out, off).is_some(), refused);
             }
             crate::inputs::option(&mut r, &mut out);
-            let refused = !read_option(&out).answer.accepted();
-            assert_eq!(places::in_option(&out).is_some(), refused);
+            let refused = !read_option(&out, off).answer.accepted();
+            assert_eq!(places::in_option(&out, off).is_some(), refused);
             crate::inputs::string(&mut r, &mut out);
             assert_eq!(places::in_string(&out).is_some(), !string(&out).accepted());
         }
@@ -603,10 +746,10 @@ mod tests {
         let entry = next_entry(&whole[8..24], 0);
         assert_eq!((entry.service, entry.ttl, entry.count1), (0x1234, 3600, 1));
         assert_eq!(next_entry(&whole[8..24], 16).answer, NOTHING);
-        let option = read_option(&whole[28..]);
+        let option = read_option(&whole[28..], Settings::STRICT);
         assert_eq!((option.protocol, option.port, option.size), (6, 8080, 12));
         assert_eq!((option.address_at, option.address_len), (4, 4));
-        let sd = read(&whole, false).unwrap();
+        let sd = read(&whole, Settings::STRICT).unwrap();
         let mut table = [9; SLOTS];
         fill_table(sd.options_index(), &mut table);
         assert_eq!(table, [0; SLOTS]);
@@ -619,7 +762,7 @@ mod tests {
     #[test]
     fn own_lookup_and_document_lookup_agree() {
         let options = hex("00010780 0009 04 00C0A8010100061F90 0002 0100 00");
-        let index = index(&options).unwrap();
+        let index = index(&options, Settings::OFF).unwrap();
         let mut table = [0; SLOTS];
         fill_table(&index, &mut table);
         for ordinal in 0..5 {

@@ -1,6 +1,8 @@
-//! At which byte refusals 7 to 10 say that it went wrong. The crate tells no place: this is a walk of the comparison's own over the bytes,
-//! written from the rules and neither from the port nor from the crate. What it finds must be what the crate refused, or the two are no answer.
+//! At which byte refusals 7 to 10 say that it went wrong, and which option the strict setting refuses by 23. The crate tells no place and has no such
+//! setting: this is a walk of the comparison's own over the bytes, written from the rules and neither from the port nor from the crate. What it finds
+//! must be what the crate refused, or the two are no answer; 23 is the walk's alone.
 
+use crate::calls::Settings;
 use std::collections::BTreeMap;
 use std::fmt;
 
@@ -19,11 +21,15 @@ pub enum Cause {
     Text(u64),
     /// 10.
     Unknown,
+    /// 23: a transport protocol that is neither TCP nor UDP, by the option's type.
+    OtherProtocol(u8),
+    /// 23: TCP in a multicast option, by its type.
+    MulticastTcp(u8),
 }
 
 impl Cause {
-    /// All, as a tally lists them.
-    pub const ALL: [Cause; 11] = [
+    /// Those that any settings refuse.
+    pub const PLAIN: [Cause; 11] = [
         Cause::NoHead,
         Cause::CutShort,
         Cause::OtherLength,
@@ -37,6 +43,18 @@ impl Cause {
         Cause::Unknown,
     ];
 
+    /// Those that the strict setting alone refuses.
+    pub const STRICT: [Cause; 8] = [
+        Cause::OtherProtocol(0x04),
+        Cause::OtherProtocol(0x06),
+        Cause::OtherProtocol(0x14),
+        Cause::OtherProtocol(0x16),
+        Cause::OtherProtocol(0x24),
+        Cause::OtherProtocol(0x26),
+        Cause::MulticastTcp(0x14),
+        Cause::MulticastTcp(0x16),
+    ];
+
     /// The number by which it is refused.
     pub fn number(self) -> u64 {
         match self {
@@ -44,6 +62,7 @@ impl Cause {
             Cause::LengthZero => 8,
             Cause::Text(_) => 9,
             Cause::Unknown => 10,
+            Cause::OtherProtocol(_) | Cause::MulticastTcp(_) => 23,
         }
     }
 }
@@ -57,6 +76,8 @@ impl fmt::Display for Cause {
             Cause::LengthZero => f.write_str("8"),
             Cause::Text(error) => write!(f, "9, string error {error}"),
             Cause::Unknown => f.write_str("10"),
+            Cause::OtherProtocol(code) => write!(f, "23, neither TCP nor UDP in {code:#04x}"),
+            Cause::MulticastTcp(code) => write!(f, "23, TCP in multicast {code:#04x}"),
         }
     }
 }
@@ -185,9 +206,37 @@ fn kind_length(code: u8) -> Option<usize> {
     }
 }
 
+const TCP: u8 = 0x06;
+const UDP: u8 = 0x11;
+
+/// Which byte of an option with an address is its transport protocol: behind the length (2), the type, the first byte, the address (4 or 16) and a
+/// reserved byte.
+fn protocol_place(code: u8) -> Option<usize> {
+    match code {
+        0x04 | 0x14 | 0x24 => Some(9),
+        0x06 | 0x16 | 0x26 => Some(21),
+        _ => None,
+    }
+}
+
+/// An option whose length is right, under the strict setting: one with an address carries TCP or UDP, and multicast (0x14, 0x16) only UDP. The
+/// protocol's byte is the place.
+fn in_protocol(option: &[u8]) -> Option<Fault> {
+    let code = option[2];
+    let place = protocol_place(code)?;
+    let multicast = code == 0x14 || code == 0x16;
+    let cause = match option[place] {
+        UDP => return None,
+        TCP if multicast => Cause::MulticastTcp(code),
+        TCP => return None,
+        _ => Cause::OtherProtocol(code),
+    };
+    Some(Fault::at(cause, place))
+}
+
 /// The option in front of these bytes, counted from its first byte, which is the place for 7 and 8; for 9 the place is one in the string, which
-/// begins at byte 4.
-pub fn in_option(bytes: &[u8]) -> Option<Fault> {
+/// begins at byte 4. Whether unknown options are discarded makes no difference here.
+pub fn in_option(bytes: &[u8], settings: Settings) -> Option<Fault> {
     if bytes.len() < 3 {
         return Some(Fault::at(Cause::NoHead, 0));
     }
@@ -204,16 +253,17 @@ pub fn in_option(bytes: &[u8]) -> Option<Fault> {
     }
     match kind_length(bytes[2]) {
         Some(length) if 3 + length != size => Some(Fault::at(Cause::OtherLength, 0)),
+        _ if settings.strict => in_protocol(bytes),
         _ => None,
     }
 }
 
 /// The first option of an options part that is wrong by itself, counted from the part's first byte.
-pub fn in_options(options: &[u8]) -> Option<Fault> {
+pub fn in_options(options: &[u8], settings: Settings) -> Option<Fault> {
     let mut at = 0;
     while at < options.len() {
         let rest = &options[at..];
-        if let Some(fault) = in_option(rest) {
+        if let Some(fault) = in_option(rest, settings) {
             return Some(fault.behind(at));
         }
         at += size(rest);
@@ -236,16 +286,20 @@ fn unknown_in(options: &[u8]) -> Option<Fault> {
     None
 }
 
-/// The options of a payload whose lengths are right, counted from the first byte of its options part. Of a message the payload is what is behind
-/// the header.
-pub fn in_payload(payload: &[u8], discard: bool) -> Option<Fault> {
+/// The options part of a payload whose lengths are right. Of a message the payload is what is behind the header.
+pub fn options_part(payload: &[u8]) -> Option<&[u8]> {
     let field = payload.get(4..8)?;
     let entries = field
         .iter()
         .fold(0, |number, byte| 256 * number + usize::from(*byte));
-    let options = payload.get(8 + entries + 4..)?;
-    match in_options(options) {
-        None if !discard => unknown_in(options),
+    payload.get(8 + entries + 4..)
+}
+
+/// The options of a payload whose lengths are right, counted from the first byte of its options part.
+pub fn in_payload(payload: &[u8], settings: Settings) -> Option<Fault> {
+    let options = options_part(payload)?;
+    match in_options(options, settings) {
+        None if !settings.discard => unknown_in(options),
         fault => fault,
     }
 }
@@ -253,6 +307,7 @@ pub fn in_payload(payload: &[u8], discard: bool) -> Option<Fault> {
 #[cfg(test)]
 mod tests {
     use super::*;
+    use crate::calls::{DISCARD, STRICT};
 
     fn hex(text: &str) -> Vec<u8> {
         let digits: Vec<u8> = text.bytes().filter(|b| *b != b' ').collect();
@@ -339,18 +394,107 @@ mod tests {
 
     #[test]
     fn options() {
-        for (option, cause, place) in bad_options() {
-            assert_eq!(in_option(&option), Some(Fault::at(cause, place)));
+        for settings in Settings::ALL {
+            for (option, cause, place) in bad_options() {
+                let found = in_option(&option, settings);
+                assert_eq!(found, Some(Fault::at(cause, place)));
+            }
+            let empty = in_option(&[], settings);
+            assert_eq!(empty, Some(Fault::at(Cause::NoHead, 0)));
+            for good in [
+                "00 01 77 00",
+                "00 02 01 00 00",
+                "00 05 02 00 00 00 00 00",
+                "00 09 14 00 EF 00 00 01 00 11 75 30",
+                "00 01 77 80 FF", // what is behind is not looked at
+            ] {
+                assert_eq!(in_option(&hex(good), settings), None, "{good}");
+            }
         }
-        assert_eq!(in_option(&[]), Some(Fault::at(Cause::NoHead, 0)));
-        for good in [
-            "00 01 77 00",
-            "00 02 01 00 00",
-            "00 05 02 00 00 00 00 00",
-            "00 09 14 00 EF 00 00 01 00 11 75 30",
-            "00 01 77 80 FF", // what is behind is not looked at
-        ] {
-            assert_eq!(in_option(&hex(good)), None, "{good}");
+    }
+
+    /// Options with an address whose protocol is wrong, with its place, counted by hand.
+    fn wrong_protocols() -> Vec<(Vec<u8>, Cause, usize)> {
+        [
+            (
+                "00 09 04 00 C0 A8 01 01 00 99 1F 90",
+                Cause::OtherProtocol(0x04),
+                9,
+            ),
+            // Beside the protocol stand bytes that would do.
+            (
+                "00 09 24 06 06 11 06 11 06 00 11 06",
+                Cause::OtherProtocol(0x24),
+                9,
+            ),
+            (
+                "00 09 14 11 EF 11 11 11 11 12 11 11",
+                Cause::OtherProtocol(0x14),
+                9,
+            ),
+            (
+                "00 09 14 00 EF 00 00 01 11 06 11 30",
+                Cause::MulticastTcp(0x14),
+                9,
+            ),
+            (
+                "00 15 06 00 FD 00 00 00 00 09 00 11 00 00 00 00 00 00 00 01 11 05 11 90",
+                Cause::OtherProtocol(0x06),
+                21,
+            ),
+            (
+                "00 15 26 80 06 06 06 06 06 06 06 06 06 06 06 06 06 06 06 06 06 FF 06 06",
+                Cause::OtherProtocol(0x26),
+                21,
+            ),
+            (
+                "00 15 16 00 FF 02 00 00 00 11 11 11 11 11 11 11 11 11 11 01 11 91 11 11",
+                Cause::OtherProtocol(0x16),
+                21,
+            ),
+            (
+                "00 15 16 00 FF 02 00 00 00 11 11 11 11 11 11 11 11 11 11 01 11 06 11 11",
+                Cause::MulticastTcp(0x16),
+                21,
+            ),
+        ]
+        .map(|(text, cause, place)| (hex(text), cause, place))
+        .to_vec()
+    }
+
+    /// What the strict setting refuses, and it alone; after the length, and in no other kind.
+    #[test]
+    fn protocols() {
+        for (option, cause, place) in wrong_protocols() {
+            for strict in [STRICT, DISCARD | STRICT].map(Settings::of) {
+                let want = Some(Fault::at(cause, place));
+                assert_eq!(in_option(&option, strict), want, "{option:02x?}");
+                let mut good = option.clone();
+                good[place] = UDP;
+                assert_eq!(in_option(&good, strict), None);
+                good[place] = TCP;
+                let multicast = [0x14, 0x16].contains(&option[2]);
+                let want = multicast.then_some(Fault::at(Cause::MulticastTcp(option[2]), place));
+                assert_eq!(in_option(&good, strict), want);
+                // One byte fewer than its kind has, and none at all.
+                let mut short = option.clone();
+                short[1] -= 1;
+                let want = Some(Fault::at(Cause::OtherLength, 0));
+                assert_eq!(in_option(&short, strict), want);
+                short[1] = 0;
+                let want = Some(Fault::at(Cause::LengthZero, 0));
+                assert_eq!(in_option(&short, strict), want);
+                let cut = &option[..option.len() - 1];
+                let want = Some(Fault::at(Cause::CutShort, 0));
+                assert_eq!(in_option(cut, strict), want);
+                // An unknown type with the same bytes behind it.
+                let mut unknown = option.clone();
+                unknown[2] = 0x34;
+                assert_eq!(in_option(&unknown, strict), None);
+            }
+            for lenient in [0, DISCARD].map(Settings::of) {
+                assert_eq!(in_option(&option, lenient), None);
+            }
         }
     }
 
@@ -360,16 +504,39 @@ mod tests {
         let front = "00 01 77 80";
         let more = "00 01 77 80 00 09 04 00 C0 A8 01 01 00 06 1F 90 00 06 01 00 03 61 3D 31 00";
         for (good, start) in [("", 0), (front, 4), (more, 25)] {
-            for (option, cause, place) in bad_options() {
-                let options = [hex(good), option].concat();
-                let want = Fault {
+            let behind = |cause, place| {
+                Some(Fault {
                     cause,
                     option: start,
                     place: start + place,
-                };
-                assert_eq!(in_options(&options), Some(want));
+                })
+            };
+            for (option, cause, place) in bad_options() {
+                let options = [hex(good), option].concat();
+                for settings in Settings::ALL {
+                    let found = in_options(&options, settings);
+                    assert_eq!(found, behind(cause, place));
+                }
             }
-            assert_eq!(in_options(&hex(good)), None);
+            for settings in Settings::ALL {
+                assert_eq!(in_options(&hex(good), settings), None);
+            }
+            for (option, cause, place) in wrong_protocols() {
+                let options = [hex(good), option].concat();
+                let found = in_options(&options, Settings::STRICT);
+                assert_eq!(found, behind(cause, place));
+                assert_eq!(in_options(&options, Settings::OFF), None);
+                // In front of an option that is wrong by itself, the protocol comes first; behind it, it is not come to.
+                for (other, reason, at) in bad_options() {
+                    let found = in_options(&[&options[..], &other].concat(), Settings::STRICT);
+                    assert_eq!(found, behind(cause, place));
+                    let late = [&hex(good)[..], &other, &options[start..]].concat();
+                    let found = in_options(&late, Settings::STRICT);
+                    if ![Cause::NoHead, Cause::CutShort].contains(&reason) {
+                        assert_eq!(found, behind(reason, at));
+                    }
+                }
+            }
         }
     }
 
@@ -385,7 +552,8 @@ mod tests {
             bytes
         };
         for entries in [0, 16, 48] {
-            let fault = |text, discard| in_payload(&payload(entries, text), discard);
+            let under = |text, word| in_payload(&payload(entries, text), Settings::of(word));
+            let fault = |text, discard| under(text, if discard { DISCARD } else { 0 });
             let unknown = |option| {
                 Some(Fault {
                     cause: Cause::Unknown,
@@ -410,8 +578,27 @@ mod tests {
             assert_eq!(fault("00 01 77 00 00 00 77", false), later);
             assert_eq!(fault("00 01 77 00 00 00 77", true), later);
             assert_eq!(fault("", false), None);
+            // A protocol is judged with its option: in front of 10, wherever the unknown option stands, and in front of a later 8.
+            let protocol = |option| {
+                Some(Fault {
+                    cause: Cause::OtherProtocol(0x04),
+                    option,
+                    place: option + 9,
+                })
+            };
+            let counterfeit = "00 09 04 00 C0 A8 01 01 00 99 1F 90";
+            let behind = format!("00 01 77 00 {counterfeit}");
+            let before = format!("{counterfeit} 00 01 77 00 00 00 77");
+            for strict in [STRICT, DISCARD | STRICT] {
+                assert_eq!(under(counterfeit, strict), protocol(0));
+                assert_eq!(under(&behind, strict), protocol(4));
+                assert_eq!(under(&before, strict), protocol(0));
+            }
+            assert_eq!(under(&behind, 0), unknown(0));
+            assert_eq!(under(&behind, DISCARD), None);
+            assert_eq!(under("00 01 77 00", STRICT), unknown(0));
         }
-        assert_eq!(in_payload(&[0; 7], false), None);
-        assert_eq!(in_payload(&[0xff; 12], false), None);
+        assert_eq!(in_payload(&[0; 7], Settings::OFF), None);
+        assert_eq!(in_payload(&[0xff; 12], Settings::STRICT), None);
     }
 }

@@ -37,4 +37,11 @@ pub mod family {
     pub const LONG_STRING: u64 = 11;
     pub const REFUSED_OPTION: u64 = 12;
     pub const REFUSED_RECORD: u64 = 13;
+    pub const WRONG_PROTOCOL: u64 = 14;
+    pub const STRICT_RECORD: u64 = 15;
+    pub const STRICT_REFUSED_RECORD: u64 = 16;
+    pub const WRONG_PROTOCOL_RECORD: u64 = 17;
+
+    /// Added to a family: what is drawn for the strict setting beside its inputs, which stay what they are without it.
+    pub const STRICTLY: u64 = 100;
 }

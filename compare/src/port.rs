@@ -18,7 +18,13 @@ extern "C" {
         slots: usize,
         settings: u32,
     ) -> Answer;
-    fn viaductle_index(options: *const u8, len: usize, table: *mut u16, slots: usize) -> Answer;
+    fn viaductle_index(
+        options: *const u8,
+        len: usize,
+        table: *mut u16,
+        slots: usize,
+        settings: u32,
+    ) -> Answer;
     fn viaductle_parts(payload: *const u8, len: usize, answer: Answer) -> Places;
     fn viaductle_lookup(
         options: *const u8,
@@ -28,7 +34,7 @@ extern "C" {
         count: usize,
         ordinal: usize,
     ) -> Answer;
-    fn viaductle_next_option(options: *const u8, len: usize, at: usize) -> Answer;
+    fn viaductle_next_option(options: *const u8, len: usize, at: usize, settings: u32) -> Answer;
     fn viaductle_next_of_run(
         options: *const u8,
         len: usize,
@@ -41,7 +47,7 @@ extern "C" {
     fn viaductle_string(string: *const u8, len: usize) -> Answer;
     fn viaductle_next_item(string: *const u8, len: usize, at: usize) -> Answer;
     fn viaductle_next_entry(entries: *const u8, len: usize, at: usize) -> Entry;
-    fn viaductle_read_option(option: *const u8, len: usize) -> Opt;
+    fn viaductle_read_option(option: *const u8, len: usize, settings: u32) -> Opt;
 
     fn viaductle_begin(state: *mut u32, words: usize, limit: u32) -> Answer;
     fn viaductle_consume(
@@ -87,13 +93,14 @@ impl Calls for Hub {
         }
     }
 
-    fn index(&self, options: &[u8], table: &mut [u16]) -> Answer {
+    fn index(&self, options: &[u8], table: &mut [u16], settings: u32) -> Answer {
         unsafe {
             viaductle_index(
                 options.as_ptr(),
                 options.len(),
                 table.as_mut_ptr(),
                 table.len(),
+                settings,
             )
         }
     }
@@ -115,8 +122,8 @@ impl Calls for Hub {
         }
     }
 
-    fn next_option(&self, options: &[u8], at: usize) -> Answer {
-        unsafe { viaductle_next_option(options.as_ptr(), options.len(), at) }
+    fn next_option(&self, options: &[u8], at: usize, settings: u32) -> Answer {
+        unsafe { viaductle_next_option(options.as_ptr(), options.len(), at, settings) }
     }
 
     fn next_of_run(
@@ -152,8 +159,8 @@ impl Calls for Hub {
         unsafe { viaductle_next_entry(entries.as_ptr(), entries.len(), at) }
     }
 
-    fn read_option(&self, option: &[u8]) -> Opt {
-        unsafe { viaductle_read_option(option.as_ptr(), option.len()) }
+    fn read_option(&self, option: &[u8], settings: u32) -> Opt {
+        unsafe { viaductle_read_option(option.as_ptr(), option.len(), settings) }
     }
 
     fn begin(&self, state: &mut [u32], limit: u32) -> Answer {

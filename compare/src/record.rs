@@ -1,6 +1,6 @@
 //! Writes the crate's answers to seeded inputs, for replay by programs that have no Rust. FORMAT.md has the layout.
 
-use crate::calls::{Answer, SLOTS};
+use crate::calls::{Answer, Settings, SLOTS};
 use crate::oracle;
 use crate::oracle_tp::{has_bytes_behind, Stream};
 use crate::places::{self, Cause, Faults};
@@ -141,11 +141,11 @@ fn add_option(sum: &mut Sum, option: &crate::calls::Opt) {
 }
 
 /// The option cursor from the front: each answer, the last being 20 or the first refusal.
-fn sum_of_options(options: &[u8]) -> u32 {
+fn sum_of_options(options: &[u8], settings: Settings) -> u32 {
     let mut sum = Sum::default();
     let mut at = 0;
     loop {
-        let answer = oracle::next_option(options, at);
+        let answer = oracle::next_option(options, at, settings);
         add_answer(&mut sum, answer);
         if !answer.accepted() {
             return sum.value();
@@ -162,7 +162,8 @@ pub struct List {
     bytes: Vec<u8>,
     records: u32,
     longest: usize,
-    pub kinds: BTreeMap<Kind, u64>,
+    /// Records by kind, under each settings.
+    pub kinds: BTreeMap<Kind, BTreeMap<Settings, u64>>,
     /// Answers by number; a string's error as 90 plus which of the six.
     pub answers: BTreeMap<u64, u64>,
     /// Payloads, messages and options parts that are refused for an option.
@@ -174,7 +175,7 @@ impl List {
     fn record(
         &mut self,
         kind: Kind,
-        setting: u8,
+        settings: Settings,
         arguments: &[u32],
         answer: Answer,
         checks: &[u32],
@@ -193,7 +194,7 @@ impl List {
         assert!(length <= MOST_RECORD, "a record of {length} bytes");
         self.bytes.extend_from_slice(&(length as u16).to_be_bytes());
         self.bytes
-            .extend_from_slice(&[kind as u8, setting, answer.number as u8]);
+            .extend_from_slice(&[kind as u8, settings.word() as u8, answer.number as u8]);
         self.bytes.extend_from_slice(&counts);
         for word in words {
             self.bytes.extend_from_slice(&word.to_be_bytes());
@@ -201,7 +202,8 @@ impl List {
         self.bytes.extend_from_slice(input);
         self.records += 1;
         self.longest = self.longest.max(length);
-        *self.kinds.entry(kind).or_default() += 1;
+        let kinds = self.kinds.entry(kind).or_default();
+        *kinds.entry(settings).or_default() += 1;
         self.count(answer);
     }
 
@@ -229,8 +231,11 @@ impl List {
 
     fn print(&self, name: &str, size: usize) {
         println!("{name}: {} records, {size} bytes", self.records);
-        for (kind, count) in &self.kinds {
-            println!("  {count:>8}  {kind:?}");
+        for (kind, counts) in &self.kinds {
+            println!("  {:>8}  {kind:?}", counts.values().sum::<u64>());
+            for (settings, count) in counts.iter().filter(|_| counts.len() > 1) {
+                println!("    {count:>8}  {settings}");
+            }
         }
         println!("  answers by number (9 by its six errors, 91 to 96):");
         for (number, count) in &self.answers {
@@ -242,15 +247,15 @@ impl List {
 
 // ---- service discovery
 
-fn payload_record(list: &mut List, payload: &[u8], discard: bool) {
-    let reading = oracle::read(payload, discard);
-    reading_record(list, Kind::Payload, payload, payload, discard, reading);
+fn payload_record(list: &mut List, payload: &[u8], settings: Settings) {
+    let reading = oracle::read(payload, settings);
+    reading_record(list, Kind::Payload, payload, payload, settings, reading);
 }
 
-fn message_record(list: &mut List, message: &[u8], discard: bool) {
-    if let Some(reading) = oracle::read_message(message, discard) {
+fn message_record(list: &mut List, message: &[u8], settings: Settings) {
+    if let Some(reading) = oracle::read_message(message, settings) {
         let payload = &message[16..];
-        reading_record(list, Kind::Message, message, payload, discard, reading);
+        reading_record(list, Kind::Message, message, payload, settings, reading);
     }
 }
 
@@ -260,7 +265,7 @@ fn reading_record(
     kind: Kind,
     input: &[u8],
     payload: &[u8],
-    discard: bool,
+    settings: Settings,
     reading: Result<someip_parse::sd::SdSlice, Answer>,
 ) {
     match reading {
@@ -273,49 +278,57 @@ fn reading_record(
                 sd.entries_slice().len() as u32,
                 sum_of_table(&table),
                 sum_of_entries(sd.entries_slice()),
-                sum_of_options(index.options()),
+                sum_of_options(index.options(), settings),
             ];
             let answer = oracle::read_answer(&sd);
-            list.record(kind, discard.into(), &[], answer, &checks, input);
+            list.record(kind, settings, &[], answer, &checks, input);
         }
         Err(answer) => {
-            if (7..=10).contains(&answer.number) {
-                list.faults.count(places::in_payload(payload, discard));
+            if answer.tells_place() {
+                list.faults.count(places::in_payload(payload, settings));
             }
-            list.record(kind, discard.into(), &[], answer, &[], input)
+            list.record(kind, settings, &[], answer, &[], input)
         }
     }
 }
 
-fn index_record(list: &mut List, options: &[u8]) {
-    match oracle::index(options) {
+fn index_record(list: &mut List, options: &[u8], settings: Settings) {
+    match oracle::index(options, settings) {
         Ok(index) => {
             let mut table = [0; SLOTS];
             oracle::fill_table(&index, &mut table);
             let answer = Answer::new(0, &[index.len() as u64]);
-            let checks = [sum_of_table(&table), sum_of_options(options)];
-            list.record(Kind::Index, 0, &[], answer, &checks, options);
+            let checks = [sum_of_table(&table), sum_of_options(options, settings)];
+            list.record(Kind::Index, settings, &[], answer, &checks, options);
         }
         Err(answer) => {
-            if (7..=9).contains(&answer.number) {
-                list.faults.count(places::in_options(options));
+            if answer.tells_place() {
+                list.faults.count(places::in_options(options, settings));
             }
-            list.record(Kind::Index, 0, &[], answer, &[], options)
+            list.record(Kind::Index, settings, &[], answer, &[], options)
         }
     }
 }
 
 /// Lookup at one place of the crate's own index.
 fn lookup_record(list: &mut List, options: &[u8], ordinal: usize) {
-    if let Ok(index) = oracle::index(options) {
+    if let Ok(index) = oracle::index(options, Settings::OFF) {
         let answer = oracle::option_at(&index, ordinal);
-        list.record(Kind::Lookup, 0, &[ordinal as u32], answer, &[], options);
+        let arguments = [ordinal as u32];
+        list.record(
+            Kind::Lookup,
+            Settings::OFF,
+            &arguments,
+            answer,
+            &[],
+            options,
+        );
     }
 }
 
 /// A run of the crate's own index: how many options it handed out, and a sum over its answers.
 fn run_record(list: &mut List, options: &[u8], start: u8, count: u8) {
-    if let Ok(index) = oracle::index(options) {
+    if let Ok(index) = oracle::index(options, Settings::OFF) {
         let answers = oracle::run(&index, start, count);
         let mut sum = Sum::default();
         for answer in &answers {
@@ -323,7 +336,8 @@ fn run_record(list: &mut List, options: &[u8], start: u8, count: u8) {
         }
         let said = Answer::new(0, &[answers.len() as u64 - 1]);
         let arguments = [start.into(), count.into()];
-        list.record(Kind::Run, 0, &arguments, said, &[sum.value()], options);
+        let checks = [sum.value()];
+        list.record(Kind::Run, Settings::OFF, &arguments, said, &checks, options);
     }
 }
 
@@ -332,18 +346,28 @@ fn entry_record(list: &mut List, bytes: &[u8]) {
     let entry = oracle::next_entry(bytes, 0);
     let mut sum = Sum::default();
     add_entry(&mut sum, &entry);
-    list.record(Kind::Entry, 0, &[], entry.answer, &[sum.value()], bytes);
+    let checks = [sum.value()];
+    list.record(
+        Kind::Entry,
+        Settings::OFF,
+        &[],
+        entry.answer,
+        &checks,
+        bytes,
+    );
 }
 
-fn option_record(list: &mut List, bytes: &[u8]) {
-    let option = oracle::read_option(bytes);
+fn option_record(list: &mut List, bytes: &[u8], settings: Settings) {
+    let option = oracle::read_option(bytes, settings);
     let mut sum = Sum::default();
     add_option(&mut sum, &option);
-    list.record(Kind::Option, 0, &[], option.answer, &[sum.value()], bytes);
+    let checks = [sum.value()];
+    list.record(Kind::Option, settings, &[], option.answer, &checks, bytes);
 }
 
 fn string_record(list: &mut List, string: &[u8]) {
-    list.record(Kind::String, 0, &[], oracle::string(string), &[], string);
+    let answer = oracle::string(string);
+    list.record(Kind::String, Settings::OFF, &[], answer, &[], string);
 }
 
 /// Whether an input is kept: all short ones, one in sixty of those over 150 bytes, none that a record cannot hold.
@@ -351,28 +375,32 @@ fn kept(r: &mut Random, input: &[u8]) -> bool {
     input.len() <= 150 || (input.len() <= 1900 && r.once_in(60))
 }
 
-/// The service discovery list: at least 24,000 inputs, and every number that the crate can give at least fifty times; then options that are refused.
+/// The service discovery list: at least 24,000 inputs, and every number that the crate can give at least fifty times; then options that are refused;
+/// then strict readings.
 pub fn service_discovery(seed: u64) -> List {
     let mut list = List::default();
     let (mut out, mut number) = (Vec::new(), 0);
     let wanted = || (1..=20).filter(|n| *n != 9).chain(91..=96);
     while list.records < 24_000 || wanted().any(|n| list.often(n) < OFTEN) {
         let mut r = Random::of(seed, family::RECORD, number);
-        let discard = r.once_in(2);
+        let settings = Settings {
+            strict: false,
+            discard: r.once_in(2),
+        };
         inputs::payload(&mut r, &mut out);
         if kept(&mut r, &out) {
-            payload_record(&mut list, &out, discard);
+            payload_record(&mut list, &out, settings);
         }
         if number % 3 == 0 {
             inputs::message(&mut r, &mut out);
             if kept(&mut r, &out) {
-                message_record(&mut list, &out, discard);
+                message_record(&mut list, &out, settings);
             }
         }
         if number % 4 == 0 {
             inputs::options(&mut r, &mut out);
             if kept(&mut r, &out) {
-                index_record(&mut list, &out);
+                index_record(&mut list, &out, Settings::OFF);
                 lookup_record(&mut list, &out, number as usize % 7);
                 run_record(&mut list, &out, r.below(6) as u8, r.below(16) as u8);
             }
@@ -381,46 +409,162 @@ pub fn service_discovery(seed: u64) -> List {
             inputs::entry(&mut r, &mut out);
             entry_record(&mut list, &out);
             inputs::option(&mut r, &mut out);
-            option_record(&mut list, &out);
+            option_record(&mut list, &out, Settings::OFF);
             inputs::string(&mut r, &mut out);
             string_record(&mut list, &out);
         }
         // Refusals of long inputs are rare among the kept ones.
         if number % 150 == 0 {
             inputs::announcing_too_much(&mut r, &mut out);
-            payload_record(&mut list, &out, discard);
+            payload_record(&mut list, &out, settings);
             let length = 1389 + r.below(200);
             out.clear();
             out.resize(length, 0x41);
-            index_record(&mut list, &out);
+            index_record(&mut list, &out, Settings::OFF);
         }
         number += 1;
     }
     for number in 0..REFUSED {
         refused_records(&mut list, seed, number);
     }
+    all_strict_records(&mut list, seed);
     list
 }
 
 /// How many lists of options that are refused for one of them.
 const REFUSED: u64 = 330;
 
-/// Options of which one is refused, for each cause in turn: as an options part, in a payload, behind a header, and that one alone.
+/// Options of which one is refused, for each cause in turn.
 fn refused_records(list: &mut List, seed: u64, number: u64) {
     let mut r = Random::of(seed, family::REFUSED_RECORD, number);
-    let cause = Cause::ALL[number as usize % Cause::ALL.len()];
-    let discard = cause != Cause::Unknown && r.once_in(2);
-    let (mut options, mut out) = (Vec::new(), Vec::new());
+    let cause = Cause::PLAIN[number as usize % Cause::PLAIN.len()];
+    let settings = Settings {
+        strict: false,
+        discard: cause != Cause::Unknown && r.once_in(2),
+    };
+    let mut options = Vec::new();
     let start = inputs::refused_option(&mut r, cause, &mut options);
-    if !kept(&mut r, &options) {
+    list_records(list, &mut r, &options, start, Settings::OFF, settings);
+}
+
+/// Options of which the one at `start` is refused: as an options part, that one alone, in a payload, and behind a header.
+fn list_records(
+    list: &mut List,
+    r: &mut Random,
+    options: &[u8],
+    start: usize,
+    of_options: Settings,
+    of_payload: Settings,
+) {
+    if !kept(r, options) {
         return;
     }
-    index_record(list, &options);
-    option_record(list, &options[start..]);
-    inputs::payload_of(&mut r, &options, &mut out);
-    payload_record(list, &out, discard);
-    inputs::message_of(&mut r, &mut out);
-    message_record(list, &out, discard);
+    let mut out = Vec::new();
+    index_record(list, options, of_options);
+    option_record(list, &options[start..], of_options);
+    inputs::payload_of(r, options, &mut out);
+    // So that 23 stands before 11 too.
+    if of_payload.strict && r.once_in(4) {
+        inputs::spoil_entry(r, &mut out);
+    }
+    payload_record(list, &out, of_payload);
+    inputs::message_of(r, &mut out);
+    message_record(list, &out, of_payload);
+}
+
+// ---- the strict setting
+
+/// How many payloads are read strictly, with what goes beside them.
+const STRICT: u64 = 240;
+/// How many lists of options that any settings refuse.
+const STRICT_REFUSED: u64 = 77;
+/// How many lists of options that only a strict reading refuses.
+const WRONG_PROTOCOLS: u64 = 136;
+
+/// All strict readings of the list.
+fn all_strict_records(list: &mut List, seed: u64) {
+    for number in 0..STRICT {
+        strict_records(list, seed, number);
+    }
+    for number in 0..STRICT_REFUSED {
+        strict_refused_records(list, seed, number);
+    }
+    for number in 0..WRONG_PROTOCOLS {
+        wrong_protocol_records(list, seed, number);
+    }
+}
+
+fn strict_settings(r: &mut Random) -> Settings {
+    Settings {
+        strict: true,
+        discard: r.once_in(2),
+    }
+}
+
+/// A payload, one time in two a well-formed one, one in three behind a good header too; and at times another message, an options part and an option
+/// alone.
+fn strict_records(list: &mut List, seed: u64, number: u64) {
+    let mut r = Random::of(seed, family::STRICT_RECORD, number);
+    let settings = strict_settings(&mut r);
+    let mut out = Vec::new();
+    if r.once_in(2) {
+        inputs::well_formed(&mut r, &mut out);
+    } else {
+        inputs::payload(&mut r, &mut out);
+    }
+    inputs::vary_protocols_of_payload(&mut r, &mut out);
+    if kept(&mut r, &out) {
+        payload_record(list, &out, settings);
+        if number % 3 == 1 {
+            inputs::message_of(&mut r, &mut out);
+            message_record(list, &out, settings);
+        }
+    }
+    if number % 3 == 2 {
+        inputs::message(&mut r, &mut out);
+        inputs::vary_protocols_of_payload(&mut r, &mut out[16..]);
+        if kept(&mut r, &out) {
+            message_record(list, &out, settings);
+        }
+    }
+    if number % 4 == 1 {
+        inputs::options(&mut r, &mut out);
+        inputs::vary_protocols(&mut r, &mut out);
+        if kept(&mut r, &out) {
+            index_record(list, &out, settings);
+        }
+        inputs::option(&mut r, &mut out);
+        inputs::vary_protocols(&mut r, &mut out);
+        option_record(list, &out, settings);
+    }
+}
+
+/// Options of which one is refused under any settings, for each cause in turn.
+fn strict_refused_records(list: &mut List, seed: u64, number: u64) {
+    let mut r = Random::of(seed, family::STRICT_REFUSED_RECORD, number);
+    let cause = Cause::PLAIN[number as usize % Cause::PLAIN.len()];
+    let settings = Settings {
+        strict: true,
+        discard: cause != Cause::Unknown && r.once_in(2),
+    };
+    let mut options = Vec::new();
+    let start = inputs::refused_option(&mut r, cause, &mut options);
+    inputs::protocols_around(&mut r, &mut options, start);
+    list_records(list, &mut r, &options, start, settings, settings);
+}
+
+/// Options of which only a strict reading refuses one, for each kind and cause in turn; a quarter of them once more with protocols that it takes.
+fn wrong_protocol_records(list: &mut List, seed: u64, number: u64) {
+    let mut r = Random::of(seed, family::WRONG_PROTOCOL_RECORD, number);
+    let (round, cause) = (number as usize / 8, Cause::STRICT[number as usize % 8]);
+    let settings = strict_settings(&mut r);
+    let mut options = Vec::new();
+    let start = inputs::refused_option(&mut r, cause, &mut options);
+    list_records(list, &mut r, &options, start, settings, settings);
+    if round % 4 == 0 {
+        inputs::mend_protocols(&mut r, &mut options);
+        list_records(list, &mut r, &options, start, settings, settings);
+    }
 }
 
 // ---- streams
@@ -468,18 +612,32 @@ fn sequence_records(list: &mut List, sequence: &Sequence) -> bool {
     let mut stream = Stream::begin(sequence.limit);
     let checks = state_checks(list, &mut stream);
     let begun = Answer::default();
-    list.record(Kind::Begin, 0, &[sequence.limit], begun, &checks, &[]);
+    list.record(
+        Kind::Begin,
+        Settings::OFF,
+        &[sequence.limit],
+        begun,
+        &checks,
+        &[],
+    );
     for step in &sequence.steps {
         match step {
             Step::Segment(segment) => {
                 let answer = stream.consume(segment);
                 let checks = state_checks(list, &mut stream);
-                list.record(Kind::Segment, 0, &[], answer, &checks, segment);
+                list.record(Kind::Segment, Settings::OFF, &[], answer, &checks, segment);
             }
             Step::Clear => {
                 stream.clear();
                 let checks = state_checks(list, &mut stream);
-                list.record(Kind::Clear, 0, &[], Answer::default(), &checks, &[]);
+                list.record(
+                    Kind::Clear,
+                    Settings::OFF,
+                    &[],
+                    Answer::default(),
+                    &checks,
+                    &[],
+                );
             }
             // The report is asked for after every step.
             Step::Take => {}
@@ -525,15 +683,10 @@ pub fn run(folder: &Path, seed: u64) -> io::Result<()> {
 #[cfg(test)]
 mod tests {
     use super::*;
+    use crate::calls::{self, DISCARD};
 
-    /// A file can be walked front to back by its length fields, and says how many records it has.
-    #[test]
-    fn files_can_be_walked() {
-        let mut list = List::default();
-        payload_record(&mut list, &[0; 12], false);
-        payload_record(&mut list, &[0; 11], true);
-        string_record(&mut list, &[5, 0x41, 0]);
-        let file = list.file(b"VIADSD01");
+    /// The records of a file, found by their length fields.
+    fn walked(file: &[u8]) -> Vec<&[u8]> {
         let mut at = 16;
         let mut records = Vec::new();
         while at < file.len() {
@@ -542,13 +695,33 @@ mod tests {
             at += 2 + length;
         }
         assert_eq!(at, file.len());
-        assert_eq!(file[8..12], 3u32.to_be_bytes());
+        records
+    }
+
+    /// A file can be walked front to back by its length fields, and says how many records it has.
+    #[test]
+    fn files_can_be_walked() {
+        let mut list = List::default();
+        let strict = Settings::of(DISCARD | calls::STRICT);
+        let counterfeit = [0, 9, 4, 0, 192, 168, 1, 1, 0, 0x99, 31, 144];
+        payload_record(&mut list, &[0; 12], Settings::OFF);
+        payload_record(&mut list, &[0; 11], Settings::of(DISCARD));
+        string_record(&mut list, &[5, 0x41, 0]);
+        index_record(&mut list, &counterfeit, strict);
+        option_record(&mut list, &counterfeit, Settings::STRICT);
+        let file = list.file(b"VIADSD01");
+        let records = walked(&file);
+        assert_eq!(file[8..12], 5u32.to_be_bytes());
         // 11 bytes, discarding: 1 with 12.
         assert_eq!(records[1][..6], [1, 1, 1, 0, 1, 0]);
         assert_eq!(records[1][6..10], [0, 0, 0, 12]);
         assert_eq!(records[1][10..], [0; 11]);
         // The string 054100: 9, the second error, item 0, 5 bytes, 2 remaining, at byte 0.
         assert_eq!(records[2][..6], [6, 0, 9, 0, 5, 0]);
+        // An endpoint with protocol 0x99, strictly: 23, 0x99 at byte 9; of an option alone with a sum.
+        assert_eq!(records[3][..6], [3, 3, 23, 0, 2, 0]);
+        assert_eq!(records[3][6..14], [0, 0, 0, 0x99, 0, 0, 0, 9]);
+        assert_eq!(records[4][..6], [5, 2, 23, 0, 2, 1]);
     }
 
     #[test]
@@ -566,6 +739,25 @@ mod tests {
         assert_eq!(word.value(), bytes.value());
     }
 
+    /// Strict readings come last, so that what was recorded before there were any stays where it is; some of each kind are accepted.
+    #[test]
+    fn strict_records_come_last() {
+        let file = service_discovery(1).file(b"VIADSD01");
+        let records = walked(&file);
+        let strict = |record: &&[u8]| u32::from(record[1]) & calls::STRICT != 0;
+        let first = records.iter().position(strict).expect("some");
+        assert!(records[first..].iter().all(strict));
+        assert!((1_000..1_500).contains(&(records.len() - first)));
+        for (kind, number) in [1, 2, 3, 5]
+            .into_iter()
+            .flat_map(|kind| [(kind, 0), (kind, 23)])
+        {
+            let such = |record: &&&[u8]| (record[0], record[2]) == (kind, number);
+            let count = records[first..].iter().filter(such).count();
+            assert!(count >= 20, "{kind}, {number}: {count}");
+        }
+    }
+
     #[test]
     fn every_number_is_recorded_often() {
         let list = service_discovery(1);
@@ -573,15 +765,19 @@ mod tests {
         for number in (1..=20).filter(|n| *n != 9).chain(91..=96) {
             assert!(list.often(number) >= OFTEN, "{number}");
         }
-        for cause in Cause::ALL {
+        for (cause, often) in Cause::PLAIN
+            .map(|cause| (cause, OFTEN))
+            .into_iter()
+            .chain(Cause::STRICT.map(|cause| (cause, 15)))
+        {
             let counts = list.faults.0[&cause];
             assert!(
-                counts.iter().all(|count| *count >= OFTEN),
+                counts.iter().all(|count| *count >= often),
                 "{cause}: {counts:?}"
             );
         }
         let list = streams(1);
-        assert!(list.kinds[&Kind::Begin] >= 3_000);
+        assert!(list.kinds[&Kind::Begin][&Settings::OFF] >= 3_000);
         for number in [30, 31, 32, 33, 37] {
             assert!(list.often(number) >= OFTEN, "{number}");
         }

@@ -34,6 +34,18 @@ pub enum Fault {
     PlaceOfTheKey,
     PlaceOfTheUnknownOption,
     PlaceOfTheLastByte,
+    TcpInMulticastTaken,
+    CounterfeitSdEndpointTaken,
+    StrictUnasked,
+    StrictUnheardInMessages,
+    DiscardTakenForStrict,
+    ProtocolsBeforeAll,
+    LaterLengthBeforeProtocol,
+    UnknownBeforeProtocol,
+    EntriesBeforeProtocol,
+    PlaceOfTheReservedByte,
+    ProtocolPlaceFromTheOption,
+    TableLeftAfterProtocol,
     InputDamaged,
     SegmentSwallowed,
     FirstBytesWin,
@@ -51,7 +63,7 @@ pub enum Fault {
 use Fault::*;
 
 /// All faults: those of service discovery, then those of a stream.
-const SERVICE_DISCOVERY: [Fault; 28] = [
+const SERVICE_DISCOVERY: [Fault; 40] = [
     NeededLengthOffByOne,
     RefusalsRenumbered,
     TableShifted,
@@ -79,6 +91,18 @@ const SERVICE_DISCOVERY: [Fault; 28] = [
     PlaceOfTheKey,
     PlaceOfTheUnknownOption,
     PlaceOfTheLastByte,
+    TcpInMulticastTaken,
+    CounterfeitSdEndpointTaken,
+    StrictUnasked,
+    StrictUnheardInMessages,
+    DiscardTakenForStrict,
+    ProtocolsBeforeAll,
+    LaterLengthBeforeProtocol,
+    UnknownBeforeProtocol,
+    EntriesBeforeProtocol,
+    PlaceOfTheReservedByte,
+    ProtocolPlaceFromTheOption,
+    TableLeftAfterProtocol,
     InputDamaged,
 ];
 const STREAMS: [Fault; 11] = [
@@ -114,10 +138,10 @@ impl<P: Calls> Faulty<'_, P> {
     }
 
     /// The first refusal of the option cursor, which counts the place from the option.
-    fn refused_alone(&self, options: &[u8]) -> Answer {
+    fn refused_alone(&self, options: &[u8], settings: u32) -> Answer {
         let mut at = 0;
         loop {
-            let answer = self.inner.next_option(options, at);
+            let answer = self.inner.next_option(options, at, settings);
             if !answer.accepted() {
                 return answer;
             }
@@ -125,9 +149,71 @@ impl<P: Calls> Faulty<'_, P> {
         }
     }
 
+    /// The first 23 of an option, whatever else is wrong in front of it.
+    fn first_protocol(&self, options: &[u8], settings: u32) -> Option<Answer> {
+        let mut at = 0;
+        while at + 3 <= options.len() {
+            let mut answer = self.inner.next_option(options, at, settings);
+            if answer.number == 23 {
+                move_place(&mut answer, at as i64);
+                return Some(answer);
+            }
+            at += 3 + 256 * usize::from(options[at]) + usize::from(options[at + 1]);
+        }
+        None
+    }
+
+    /// The number that comes, by this fault, before the 23 of an option in front.
+    fn before_protocol(&self, number: u64) -> bool {
+        match self.fault {
+            LaterLengthBeforeProtocol => number == 7,
+            UnknownBeforeProtocol => number == 10,
+            EntriesBeforeProtocol => number == 11 || number == 12,
+            _ => false,
+        }
+    }
+
+    /// The faults of a 23 for a payload.
+    fn strict_reading(
+        &self,
+        mut answer: Answer,
+        payload: &[u8],
+        table: &mut [u16],
+        settings: u32,
+    ) -> Answer {
+        let start = self.inner.parts(payload, Answer::default()).options_at;
+        match self.fault {
+            TcpInMulticastTaken if answer.values[0] == 0x06 => {
+                let mut other = payload.to_vec();
+                other[(start + answer.values[1]) as usize] = 0x11;
+                return self.read(&other, table, settings);
+            }
+            LaterLengthBeforeProtocol | UnknownBeforeProtocol | EntriesBeforeProtocol => {
+                let lenient = self.inner.read(payload, table, settings & !STRICT);
+                table[..SLOTS].fill(0);
+                if self.before_protocol(lenient.number) {
+                    answer = lenient;
+                }
+            }
+            ProtocolPlaceFromTheOption => {
+                return self.refused_alone(&payload[start as usize..], settings)
+            }
+            TableLeftAfterProtocol => table[0] = 4,
+            _ => {}
+        }
+        answer
+    }
+
     /// The faults of a whole reading's answer.
-    fn reading(&self, mut answer: Answer, payload: &[u8], table: &mut [u16]) -> Answer {
+    fn reading(
+        &self,
+        mut answer: Answer,
+        payload: &[u8],
+        table: &mut [u16],
+        settings: u32,
+    ) -> Answer {
         match (self.fault, answer.number) {
+            (_, 23) => return self.strict_reading(answer, payload, table, settings),
             (NeededLengthOffByOne, 1) => answer.values[0] += 1,
             (RefusalsRenumbered, 10) => answer.number = 11,
             (RefusalsRenumbered, 11) => answer.number = 10,
@@ -147,7 +233,12 @@ impl<P: Calls> Faulty<'_, P> {
             }
             (PlaceFromTheOption, 7..=9) => {
                 let parts = self.inner.parts(payload, Answer::default());
-                return self.refused_alone(&payload[parts.options_at as usize..]);
+                return self.refused_alone(&payload[parts.options_at as usize..], settings);
+            }
+            (ProtocolsBeforeAll, 7..=9) => {
+                let parts = self.inner.parts(payload, Answer::default());
+                let options = &payload[parts.options_at as usize..];
+                return self.first_protocol(options, settings).unwrap_or(answer);
             }
             (PlaceOfTheKey, 9) if ![1, 3].contains(&answer.values[0]) => move_place(&mut answer, 1),
             (PlaceOfTheUnknownOption, 10) => move_place(&mut answer, -3),
@@ -173,14 +264,18 @@ impl<P: Calls> Calls for Faulty<'_, P> {
         }
         let settings = match self.fault {
             DiscardIgnored => settings & !DISCARD,
-            UnnamedBitObeyed if settings & 0x2 != 0 => settings | DISCARD,
+            UnnamedBitObeyed if settings & 0x4 != 0 => settings | DISCARD,
             _ => settings,
         };
         let answer = self.inner.read(payload, table, settings);
-        self.reading(answer, payload, table)
+        self.reading(answer, payload, table, settings)
     }
 
     fn read_message(&self, message: &[u8], table: &mut [u16], settings: u32) -> Answer {
+        let settings = match self.fault {
+            StrictUnheardInMessages => settings & !STRICT,
+            _ => settings,
+        };
         let mut answer = self.inner.read_message(message, table, settings);
         if self.is(SessionZeroAccepted) && answer.number == 16 {
             return self.inner.read(&message[16..], table, settings);
@@ -191,8 +286,13 @@ impl<P: Calls> Calls for Faulty<'_, P> {
         answer
     }
 
-    fn index(&self, options: &[u8], table: &mut [u16]) -> Answer {
-        self.inner.index(options, table)
+    fn index(&self, options: &[u8], table: &mut [u16], settings: u32) -> Answer {
+        let settings = match self.fault {
+            StrictUnasked => settings | STRICT,
+            DiscardTakenForStrict if settings & DISCARD != 0 => settings | STRICT,
+            _ => settings,
+        };
+        self.inner.index(options, table, settings)
     }
 
     fn parts(&self, payload: &[u8], answer: Answer) -> Places {
@@ -213,10 +313,13 @@ impl<P: Calls> Calls for Faulty<'_, P> {
         self.inner.lookup(options, table, count, ordinal + further)
     }
 
-    fn next_option(&self, options: &[u8], at: usize) -> Answer {
-        let mut answer = self.inner.next_option(options, at);
+    fn next_option(&self, options: &[u8], at: usize, settings: u32) -> Answer {
+        let mut answer = self.inner.next_option(options, at, settings);
         if self.is(PlaceFromThePart) {
             move_place(&mut answer, at as i64);
+        }
+        if self.is(PlaceOfTheReservedByte) && answer.number == 23 {
+            move_place(&mut answer, -1);
         }
         answer
     }
@@ -273,8 +376,15 @@ impl<P: Calls> Calls for Faulty<'_, P> {
         entry
     }
 
-    fn read_option(&self, option: &[u8]) -> Opt {
-        let mut said = self.inner.read_option(option);
+    fn read_option(&self, option: &[u8], settings: u32) -> Opt {
+        let mut said = self.inner.read_option(option, settings);
+        if self.is(CounterfeitSdEndpointTaken)
+            && said.answer.number == 23
+            && said.answer.values[0] == 0x99
+            && [0x24, 0x26].contains(&option[2])
+        {
+            return self.inner.read_option(option, settings & !STRICT);
+        }
         if self.is(PortBytesSwapped) {
             said.port = (said.port as u16).swap_bytes().into();
         }

@@ -1,6 +1,6 @@
 //! The comparison on the service discovery side: what the port answers beside what the crate says, for one input at a time.
 
-use crate::calls::{Answer, Calls, Places, DISCARD, NOTHING, SLOTS};
+use crate::calls::{Answer, Calls, Places, Settings, DISCARD, NOTHING, SLOTS, STRICT};
 use crate::oracle;
 use crate::places;
 use crate::tally::{hex, Tally};
@@ -20,11 +20,16 @@ fn before(slot: usize) -> u16 {
     0xa5c3 ^ (slot as u16).wrapping_mul(0x0101)
 }
 
-/// The settings as a word. With every second input all bits that have no name are set too: they are ignored.
-fn settings(discard: bool, input: &[u8]) -> u32 {
-    let unnamed = if input.len() % 2 == 1 { !DISCARD } else { 0 };
-    unnamed | if discard { DISCARD } else { 0 }
+/// The settings as a word, of which these bits are obeyed. With every second input all others are set too: they are ignored.
+fn word(settings: Settings, obeyed: u32, input: &[u8]) -> u32 {
+    let ignored = if input.len() % 2 == 1 { !obeyed } else { 0 };
+    settings.word() | ignored
 }
+
+/// What a payload and a message obey.
+const OF_A_PAYLOAD: u32 = DISCARD | STRICT;
+/// What the index, one option and the option cursor obey.
+const OF_OPTIONS: u32 = STRICT;
 
 impl<'a, P: Calls> Sd<'a, P> {
     pub fn new(port: &'a P) -> Sd<'a, P> {
@@ -58,26 +63,26 @@ impl<'a, P: Calls> Sd<'a, P> {
         self.tally.same("table", &want, &table, || hex(input));
     }
 
-    /// A payload under one setting, with a table of `slots` slots.
-    pub fn payload(&mut self, payload: &[u8], discard: bool, slots: usize) {
+    /// A payload under some settings, with a table of `slots` slots.
+    pub fn payload(&mut self, payload: &[u8], settings: Settings, slots: usize) {
         self.tally.input("payloads");
         self.lend();
-        let word = settings(discard, payload);
+        let word = word(settings, OF_A_PAYLOAD, payload);
         let got = self.port.read(payload, &mut self.table[..slots], word);
-        let reading = oracle::read(payload, discard);
-        self.reading("read", payload, payload, discard, slots, got, reading);
+        let reading = oracle::read(payload, settings);
+        self.reading("read", payload, payload, settings, slots, got, reading);
     }
 
     /// A message with SD header; what `SomeipMsgSlice` does not accept whole is left out.
-    pub fn message(&mut self, message: &[u8], discard: bool, slots: usize) {
-        let Some(reading) = oracle::read_message(message, discard) else {
+    pub fn message(&mut self, message: &[u8], settings: Settings, slots: usize) {
+        let Some(reading) = oracle::read_message(message, settings) else {
             self.tally
                 .leave_out("messages that SomeipMsgSlice does not accept whole");
             return;
         };
         self.tally.input("messages with SD header");
         self.lend();
-        let word = settings(discard, message);
+        let word = word(settings, OF_A_PAYLOAD, message);
         let got = self
             .port
             .read_message(message, &mut self.table[..slots], word);
@@ -86,7 +91,7 @@ impl<'a, P: Calls> Sd<'a, P> {
             "read_message",
             message,
             payload,
-            discard,
+            settings,
             slots,
             got,
             reading,
@@ -110,12 +115,12 @@ impl<'a, P: Calls> Sd<'a, P> {
         call: &'static str,
         input: &[u8],
         payload: &[u8],
-        discard: bool,
+        settings: Settings,
         slots: usize,
         got: Answer,
         reading: Result<SdSlice, Answer>,
     ) {
-        let name = || format!("discard {discard}, {slots} slots, {}", hex(input));
+        let name = || format!("{settings}, {slots} slots, {}", hex(input));
         if slots < SLOTS {
             self.tally.document(22);
             let want = Answer::new(22, &[slots as u64]);
@@ -128,9 +133,14 @@ impl<'a, P: Calls> Sd<'a, P> {
             Err(answer) => *answer,
         };
         self.tally.answer(want);
-        if (7..=10).contains(&want.number) {
-            let fault = places::in_payload(payload, discard);
+        self.tally.under("payloads and messages", settings, want);
+        if want.tells_place() {
+            let fault = places::in_payload(payload, settings);
             self.tally.faults.count(fault);
+        }
+        if want.number == 23 {
+            let lenient = oracle::read(payload, settings.lenient());
+            self.tally.before(lenient.err().unwrap_or_default());
         }
         self.tally.same(call, &want, &got, name);
         self.table_is(
@@ -139,12 +149,19 @@ impl<'a, P: Calls> Sd<'a, P> {
             input,
         );
         if !(14..=19).contains(&want.number) {
-            self.insides(payload, want, reading.ok(), slots);
+            self.insides(payload, settings, want, reading.ok(), slots);
         }
     }
 
     /// The parts of a payload and what the cursors and lookups hand out.
-    fn insides(&mut self, payload: &[u8], said: Answer, sd: Option<SdSlice>, slots: usize) {
+    fn insides(
+        &mut self,
+        payload: &[u8],
+        settings: Settings,
+        said: Answer,
+        sd: Option<SdSlice>,
+        slots: usize,
+    ) {
         // The crate hands out no part after a refusal; by the rules they are empty.
         let want = match &sd {
             Some(sd) => oracle::places(payload, sd),
@@ -167,7 +184,7 @@ impl<'a, P: Calls> Sd<'a, P> {
         let entries = part(want.entries_at, want.entries_len);
         let options = part(want.options_at, want.options_len);
         self.entries(entries);
-        self.options(options);
+        self.options(options, settings);
         if let Some(sd) = &sd {
             let index = sd.options_index();
             self.lookups(options, index, slots);
@@ -194,27 +211,41 @@ impl<'a, P: Calls> Sd<'a, P> {
         }
     }
 
+    /// One step of the option cursor.
+    fn next_option(&mut self, options: &[u8], at: usize, settings: Settings) -> Answer {
+        let want = oracle::next_option(options, at, settings);
+        let word = word(settings, OF_OPTIONS, options);
+        let got = self.port.next_option(options, at, word);
+        self.tally.same("next_option", &want, &got, || {
+            format!("{settings}, at {at}: {}", hex(options))
+        });
+        want
+    }
+
+    /// The option in front of some bytes, with its fields.
+    fn read_option(&mut self, bytes: &[u8], settings: Settings) -> Answer {
+        let want = oracle::read_option(bytes, settings);
+        let word = word(settings, OF_OPTIONS, bytes);
+        let got = self.port.read_option(bytes, word);
+        self.tally.same("read_option", &want, &got, || {
+            format!("{settings}, {}", hex(bytes))
+        });
+        want.answer
+    }
+
     /// The option cursor from the front to its end or first refusal, and each option's fields.
-    fn options(&mut self, options: &[u8]) {
+    fn options(&mut self, options: &[u8], settings: Settings) {
         let mut at = 0;
         loop {
-            let want = oracle::next_option(options, at);
-            let got = self.port.next_option(options, at);
-            self.tally.same("next_option", &want, &got, || {
-                format!("at {at}: {}", hex(options))
-            });
-            if want == NOTHING {
+            let said = self.next_option(options, at, settings);
+            if said == NOTHING {
                 return;
             }
-            let rest = &options[at..];
-            let (want_fields, got_fields) =
-                (oracle::read_option(rest), self.port.read_option(rest));
-            self.tally
-                .same("read_option", &want_fields, &got_fields, || hex(rest));
-            if !want.accepted() {
+            self.read_option(&options[at..], settings);
+            if !said.accepted() {
                 return;
             }
-            at += want.values[2] as usize;
+            at += said.values[2] as usize;
         }
     }
 
@@ -253,27 +284,35 @@ impl<'a, P: Calls> Sd<'a, P> {
     }
 
     /// The index alone, with lookups and some runs of it, which may leave the list.
-    pub fn index(&mut self, options: &[u8], slots: usize, runs: [(u8, u8); 2]) {
+    pub fn index(&mut self, options: &[u8], settings: Settings, slots: usize, runs: [(u8, u8); 2]) {
         self.tally.input("options parts for the index alone");
         self.lend();
-        let got = self.port.index(options, &mut self.table[..slots]);
+        let word = word(settings, OF_OPTIONS, options);
+        let got = self.port.index(options, &mut self.table[..slots], word);
+        let name = || format!("{settings}, {slots} slots, {}", hex(options));
         if slots < SLOTS {
             self.tally.document(22);
             let want = Answer::new(22, &[slots as u64]);
-            self.tally.same("index", &want, &got, || hex(options));
+            self.tally.same("index", &want, &got, name);
             self.table_is(None, slots, options);
             return;
         }
-        let index = oracle::index(options);
+        let index = oracle::index(options, settings);
         let want = match &index {
             Ok(index) => Answer::new(0, &[index.len() as u64]),
             Err(answer) => *answer,
         };
         self.tally.answer(want);
-        if (7..=10).contains(&want.number) {
-            self.tally.faults.count(places::in_options(options));
+        self.tally.under("options parts", settings, want);
+        if want.tells_place() {
+            let fault = places::in_options(options, settings);
+            self.tally.faults.count(fault);
         }
-        self.tally.same("index", &want, &got, || hex(options));
+        if want.number == 23 {
+            let lenient = oracle::index(options, settings.lenient());
+            self.tally.before(lenient.err().unwrap_or_default());
+        }
+        self.tally.same("index", &want, &got, name);
         self.table_is(index.as_ref().ok(), slots, options);
         if let Ok(index) = &index {
             self.lookups(options, index, slots);
@@ -308,20 +347,16 @@ impl<'a, P: Calls> Sd<'a, P> {
         }
     }
 
-    /// One option alone, at the front of some bytes, and cursors beside and past the end.
+    /// One option alone, at the front of some bytes, and cursors beside and past the end; with the strict setting off and on.
     pub fn option(&mut self, bytes: &[u8]) {
         self.tally.input("options alone");
-        let (want, got) = (oracle::read_option(bytes), self.port.read_option(bytes));
-        self.tally.answer(want.answer);
-        self.tally.same("read_option", &want, &got, || hex(bytes));
-        for at in [0, 1, bytes.len(), bytes.len() + 1] {
-            let (want, got) = (
-                oracle::next_option(bytes, at),
-                self.port.next_option(bytes, at),
-            );
-            self.tally.same("next_option", &want, &got, || {
-                format!("at {at}: {}", hex(bytes))
-            });
+        for settings in [Settings::OFF, Settings::STRICT] {
+            let said = self.read_option(bytes, settings);
+            self.tally.answer(said);
+            self.tally.under("options alone", settings, said);
+            for at in [0, 1, bytes.len(), bytes.len() + 1] {
+                self.next_option(bytes, at, settings);
+            }
         }
     }
 

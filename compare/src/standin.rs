@@ -1,4 +1,5 @@
-//! A port for tests that need no library: the crate's own readings for service discovery, and the rules' plain machine for a stream.
+//! A port for tests that need no library: the crate's own readings for service discovery, with the strict setting judged by the fields that it tells,
+//! and the rules' plain machine for a stream.
 
 use crate::calls::*;
 use crate::oracle;
@@ -24,6 +25,60 @@ impl StandIn {
         front.copy_from_slice(&filled);
         said
     }
+}
+
+/// The settings without the strict one.
+fn lenient(settings: u32) -> Settings {
+    Settings::of(settings & !STRICT)
+}
+
+/// The refusal of an option that the crate reads, for the protocol that it tells; the place, counted from the option, is in front of the port.
+fn refused_strictly(option: &Opt) -> Option<Answer> {
+    let taken: &[u64] = match option.code {
+        0x04 | 0x06 | 0x24 | 0x26 => &[0x06, 0x11],
+        0x14 | 0x16 => &[0x11],
+        _ => return None,
+    };
+    let wrong = !taken.contains(&option.protocol);
+    wrong.then_some(Answer::new(23, &[option.protocol, option.size - 3]))
+}
+
+/// The first such refusal among the options that the crate reads, counted from the first byte of all.
+fn first_refused_strictly(options: &[u8]) -> Option<Answer> {
+    let mut at = 0;
+    while at < options.len() {
+        let option = oracle::read_option(&options[at..], Settings::OFF);
+        if !option.answer.accepted() {
+            return None;
+        }
+        if let Some(mut refusal) = refused_strictly(&option) {
+            refusal.values[1] += at as u64;
+            return Some(refusal);
+        }
+        at += option.size as usize;
+    }
+    None
+}
+
+/// The crate's answer to some bytes under the settings; their options begin at `start`, if it came to them.
+fn judged<T>(
+    said: Result<T, Answer>,
+    settings: u32,
+    bytes: &[u8],
+    start: fn(&[u8]) -> usize,
+) -> Result<T, Answer> {
+    let early = matches!(&said, Err(refusal) if !(7..=12).contains(&refusal.number));
+    if early || settings & STRICT == 0 {
+        return said;
+    }
+    match first_refused_strictly(&bytes[start(bytes)..]) {
+        Some(refusal) => Err(refusal),
+        None => said,
+    }
+}
+
+fn options_at(payload: &[u8]) -> usize {
+    oracle::places_by_sizes(payload).options_at as usize
 }
 
 fn be32(bytes: &[u8]) -> u32 {
@@ -59,7 +114,8 @@ fn put(state: &mut [u32], ranges: &[TpRange]) {
 
 impl Calls for StandIn {
     fn read(&self, payload: &[u8], table: &mut [u16], settings: u32) -> Answer {
-        match oracle::read(payload, settings & DISCARD != 0) {
+        let said = oracle::read(payload, lenient(settings));
+        match judged(said, settings, payload, options_at) {
             Ok(sd) => Self::lent(table, Some(sd.options_index()), oracle::read_answer(&sd)),
             Err(answer) => Self::lent(table, None, answer),
         }
@@ -69,15 +125,18 @@ impl Calls for StandIn {
         if table.len() >= SLOTS && message.len() < 16 {
             return Self::lent(table, None, Answer::new(1, &[16]));
         }
-        match oracle::read_message(message, settings & DISCARD != 0) {
-            Some(Ok(sd)) => Self::lent(table, Some(sd.options_index()), oracle::read_answer(&sd)),
-            Some(Err(answer)) => Self::lent(table, None, answer),
-            None => Answer::new(99, &[]),
+        let Some(said) = oracle::read_message(message, lenient(settings)) else {
+            return Answer::new(99, &[]);
+        };
+        match judged(said, settings, &message[16..], options_at) {
+            Ok(sd) => Self::lent(table, Some(sd.options_index()), oracle::read_answer(&sd)),
+            Err(answer) => Self::lent(table, None, answer),
         }
     }
 
-    fn index(&self, options: &[u8], table: &mut [u16]) -> Answer {
-        match oracle::index(options) {
+    fn index(&self, options: &[u8], table: &mut [u16], settings: u32) -> Answer {
+        let said = oracle::index(options, Settings::OFF);
+        match judged(said, settings, options, |_| 0) {
             Ok(index) => Self::lent(table, Some(&index), Answer::new(0, &[index.len() as u64])),
             Err(answer) => Self::lent(table, None, answer),
         }
@@ -87,7 +146,7 @@ impl Calls for StandIn {
         if !answer.accepted() {
             return Places::default();
         }
-        match oracle::read(payload, true) {
+        match oracle::read(payload, Settings::OFF) {
             Err(refusal) if refusal.number <= 6 => Places::default(),
             _ => oracle::places_by_sizes(payload),
         }
@@ -97,8 +156,15 @@ impl Calls for StandIn {
         oracle::lookup_in(options, table, count, ordinal)
     }
 
-    fn next_option(&self, options: &[u8], at: usize) -> Answer {
-        oracle::next_option(options, at)
+    fn next_option(&self, options: &[u8], at: usize, settings: u32) -> Answer {
+        let answer = oracle::next_option(options, at, Settings::OFF);
+        if !answer.accepted() {
+            return answer;
+        }
+        match self.read_option(&options[at..], settings).answer {
+            refusal if !refusal.accepted() => refusal,
+            _ => answer,
+        }
     }
 
     fn next_of_run(
@@ -127,8 +193,15 @@ impl Calls for StandIn {
         oracle::next_entry(entries, at)
     }
 
-    fn read_option(&self, option: &[u8]) -> Opt {
-        oracle::read_option(option)
+    fn read_option(&self, option: &[u8], settings: u32) -> Opt {
+        let said = oracle::read_option(option, Settings::OFF);
+        match refused_strictly(&said) {
+            Some(answer) if settings & STRICT != 0 => Opt {
+                answer,
+                ..Opt::default()
+            },
+            _ => said,
+        }
     }
 
     fn begin(&self, state: &mut [u32], limit: u32) -> Answer {

@@ -1,5 +1,6 @@
 //! What a run counted, and the first differences that it found.
 
+use crate::calls::{Answer, Settings};
 use crate::places::Faults;
 use std::collections::BTreeMap;
 use std::fmt::{Debug, Write};
@@ -45,6 +46,10 @@ pub struct Tally {
     pub answers: BTreeMap<u64, u64>,
     /// Payloads, messages and options parts that are refused for an option.
     pub faults: Faults,
+    /// What was read under which settings: accepted, refused by 23, refused otherwise.
+    pub by_settings: BTreeMap<(&'static str, Settings), [u64; 3]>,
+    /// Payloads, messages and options parts that are refused by 23, by what the crate itself says of them.
+    pub before: BTreeMap<u64, u64>,
     /// Answers that the crate has not, judged by the rules alone, by number.
     pub by_document: BTreeMap<u64, u64>,
     /// Inputs that fell outside what can be compared, by why.
@@ -62,13 +67,29 @@ impl Tally {
         self.left_out.add(why, 1);
     }
 
-    /// Counts an answer of the crate.
-    pub fn answer(&mut self, answer: crate::calls::Answer) {
+    /// Counts an answer of the crate; 23 is of the rules alone.
+    pub fn answer(&mut self, answer: Answer) {
         let number = match answer.number {
             9 => 90 + answer.values[0],
+            23 => return self.document(23),
             number => number,
         };
         *self.answers.entry(number).or_default() += 1;
+    }
+
+    /// Counts a 23 by the crate's own answer, which it comes before.
+    pub fn before(&mut self, said: Answer) {
+        *self.before.entry(said.number).or_default() += 1;
+    }
+
+    /// Counts an answer under the settings that it was given under.
+    pub fn under(&mut self, what: &'static str, settings: Settings, answer: Answer) {
+        let counts = self.by_settings.entry((what, settings)).or_default();
+        counts[match answer.number {
+            0 => 0,
+            23 => 1,
+            _ => 2,
+        }] += 1;
     }
 
     pub fn document(&mut self, number: u64) {
@@ -112,8 +133,19 @@ impl Tally {
             *self.answers.entry(number).or_default() += count;
         }
         self.faults.add(other.faults);
-        for (number, count) in other.by_document {
-            *self.by_document.entry(number).or_default() += count;
+        for (under, counts) in other.by_settings {
+            let mine = self.by_settings.entry(under).or_default();
+            for (sum, count) in mine.iter_mut().zip(counts) {
+                *sum += count;
+            }
+        }
+        for (mine, theirs) in [
+            (&mut self.before, other.before),
+            (&mut self.by_document, other.by_document),
+        ] {
+            for (number, count) in theirs {
+                *mine.entry(number).or_default() += count;
+            }
         }
         self.differences += other.differences;
         let room = KEPT - self.first.len();
@@ -126,14 +158,21 @@ impl Tally {
             .print("compared without a difference, unless listed below");
         println!("answers of the crate:");
         for (number, count) in &self.answers {
-            let name = match number {
-                0 => "accepted".to_string(),
-                91..=96 => format!("9, string error {}", number - 90),
-                _ => number.to_string(),
-            };
-            println!("  {count:>12}  {name}");
+            println!("  {count:>12}  {}", answer_name(*number));
         }
         self.faults.print();
+        if !self.by_settings.is_empty() {
+            println!("accepted, refused by 23 and refused otherwise:");
+        }
+        for ((what, settings), [accepted, strictly, otherwise]) in &self.by_settings {
+            println!("  {accepted:>12} {strictly:>12} {otherwise:>12}  {what}, {settings}");
+        }
+        if !self.before.is_empty() {
+            println!("payloads, messages and options parts refused by 23, by what the crate itself says:");
+        }
+        for (number, count) in &self.before {
+            println!("  {count:>12}  {}", answer_name(*number));
+        }
         println!("answers that the crate has not, compared with the rules alone:");
         for (number, count) in &self.by_document {
             println!("  {count:>12}  {number}");
@@ -143,6 +182,15 @@ impl Tally {
         for difference in &self.first {
             println!("\n{difference}");
         }
+    }
+}
+
+/// What a counted answer is called.
+fn answer_name(number: u64) -> String {
+    match number {
+        0 => "accepted".to_string(),
+        91..=96 => format!("9, string error {}", number - 90),
+        _ => number.to_string(),
     }
 }
 

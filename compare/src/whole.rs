@@ -1,6 +1,6 @@
 //! The whole comparison: every kind of input over every thread, in one tally.
 
-use crate::calls::{Calls, SLOTS};
+use crate::calls::{Calls, Settings, SLOTS};
 use crate::inputs;
 use crate::places::Cause;
 use crate::plan::{family, Exhaustive, Plan};
@@ -49,36 +49,64 @@ fn slots(r: &mut Random) -> usize {
     }
 }
 
+/// Whether an input of a family is read strictly, one time in two, and what its protocols are then drawn from.
+fn strictly(seed: u64, family: u64, number: u64) -> (bool, Random) {
+    let mut r = Random::of(seed, family::STRICTLY + family, number);
+    (r.once_in(2), r)
+}
+
 /// A seeded payload, or a message with SD header one time in four.
 pub fn one_payload<P: Calls>(sd: &mut Sd<P>, seed: u64, number: u64, out: &mut Vec<u8>) {
     let mut r = Random::of(seed, family::PAYLOAD, number);
     let (discard, slots) = (r.once_in(2), slots(&mut r));
-    if r.once_in(4) {
+    let (strict, mut protocols) = strictly(seed, family::PAYLOAD, number);
+    let settings = Settings { strict, discard };
+    let is_message = r.once_in(4);
+    if is_message {
         inputs::message(&mut r, out);
-        sd.message(out, discard, slots);
     } else {
         inputs::payload(&mut r, out);
-        sd.payload(out, discard, slots);
+    }
+    if strict {
+        let payload = if is_message { 16 } else { 0 };
+        inputs::vary_protocols_of_payload(&mut protocols, &mut out[payload..]);
+    }
+    if is_message {
+        sd.message(out, settings, slots);
+    } else {
+        sd.payload(out, settings, slots);
     }
 }
 
 /// An options part for the index alone, with two runs of any kind.
 fn one_index<P: Calls>(sd: &mut Sd<P>, seed: u64, number: u64, out: &mut Vec<u8>) {
     let mut r = Random::of(seed, family::INDEX, number);
+    let (strict, mut protocols) = strictly(seed, family::INDEX, number);
     inputs::options(&mut r, out);
+    if strict {
+        inputs::vary_protocols(&mut protocols, out);
+    }
     let runs = [
         (r.below(12) as u8, r.byte() & 0x0f),
         (r.byte(), r.byte() & 0x0f),
     ];
-    sd.index(out, slots(&mut r), runs);
+    let settings = Settings {
+        strict,
+        discard: protocols.once_in(2),
+    };
+    sd.index(out, settings, slots(&mut r), runs);
 }
 
-/// An entry, an option and a string alone.
+/// An entry, an option and a string alone. The option is read both ways, every second time with a protocol that was drawn for the strict one.
 fn one_alone<P: Calls>(sd: &mut Sd<P>, seed: u64, number: u64, out: &mut Vec<u8>) {
     let mut r = Random::of(seed, family::ALONE, number);
+    let (drawn, mut protocols) = strictly(seed, family::ALONE, number);
     inputs::entry(&mut r, out);
     sd.entry(out);
     inputs::option(&mut r, out);
+    if drawn {
+        inputs::vary_protocols(&mut protocols, out);
+    }
     sd.option(out);
     inputs::string(&mut r, out);
     sd.string(out);
@@ -91,19 +119,50 @@ fn one_long_string<P: Calls>(sd: &mut Sd<P>, seed: u64, number: u64, out: &mut V
     sd.string(out);
 }
 
-/// Options of which one is refused, for each cause in turn: alone, as an options part, as a payload, and behind a header.
+/// Options of which one is refused under any settings, for each cause in turn. In a strict reading that one is the first, unless it is for 10, which
+/// comes after any protocol; behind it protocols are wrong every second time.
 fn one_refused<P: Calls>(sd: &mut Sd<P>, seed: u64, number: u64, out: &mut Vec<u8>) {
     let mut r = Random::of(seed, family::REFUSED_OPTION, number);
-    let cause = Cause::ALL[number as usize % Cause::ALL.len()];
+    let (strict, mut protocols) = strictly(seed, family::REFUSED_OPTION, number);
+    let cause = Cause::PLAIN[number as usize % Cause::PLAIN.len()];
     let discard = cause != Cause::Unknown && r.once_in(2);
     let mut options = Vec::new();
     let start = inputs::refused_option(&mut r, cause, &mut options);
+    if strict {
+        inputs::protocols_around(&mut protocols, &mut options, start);
+    }
+    let settings = Settings { strict, discard };
+    refused_list(sd, &mut r, &options, start, settings, out);
+}
+
+/// Options of which a strict reading refuses one for its protocol, for each kind and cause in turn; one time in four they are not read strictly.
+fn one_wrong_protocol<P: Calls>(sd: &mut Sd<P>, seed: u64, number: u64, out: &mut Vec<u8>) {
+    let mut r = Random::of(seed, family::WRONG_PROTOCOL, number);
+    let cause = Cause::STRICT[number as usize % Cause::STRICT.len()];
+    let settings = Settings {
+        strict: !r.once_in(4),
+        discard: r.once_in(2),
+    };
+    let mut options = Vec::new();
+    let start = inputs::refused_option(&mut r, cause, &mut options);
+    refused_list(sd, &mut r, &options, start, settings, out);
+}
+
+/// Options of which the one at `start` is refused: that one alone, all as an options part, as a payload, and behind a header.
+fn refused_list<P: Calls>(
+    sd: &mut Sd<P>,
+    r: &mut Random,
+    options: &[u8],
+    start: usize,
+    settings: Settings,
+    out: &mut Vec<u8>,
+) {
     sd.option(&options[start..]);
-    sd.index(&options, slots(&mut r), [(0, 0); 2]);
-    inputs::payload_of(&mut r, &options, out);
-    sd.payload(out, discard, slots(&mut r));
-    inputs::message_of(&mut r, out);
-    sd.message(out, discard, slots(&mut r));
+    sd.index(options, settings, slots(r), [(0, 0); 2]);
+    inputs::payload_of(r, options, out);
+    sd.payload(out, settings, slots(r));
+    inputs::message_of(r, out);
+    sd.message(out, settings, slots(r));
 }
 
 /// Tables that no index filled.
@@ -260,6 +319,29 @@ fn all_short<P: Calls>(port: &P, plan: &Plan) -> Tally {
     whole
 }
 
+/// Every kind with an address with every protocol, in front and behind another option: alone with the strict setting off and on; as an options part,
+/// in a payload and behind a header under all settings.
+fn all_protocols<P: Calls>(port: &P, plan: &Plan) -> Tally {
+    let count = inputs::ADDRESSED_OPTIONS as u64;
+    with_sd(port, plan, count, |sd, seed, number, out| {
+        let mut option = Vec::new();
+        inputs::nth_addressed(number as usize, &mut option);
+        sd.option(&option);
+        for front in [&[][..], &[0, 1, 0x77, 0x80]] {
+            let options = [front, &option].concat();
+            let count = 1 + (front.len() / 4) as u8;
+            for settings in Settings::ALL {
+                sd.index(&options, settings, SLOTS, [(0, count), (1, 1)]);
+                inputs::offered(&options, count, out);
+                sd.payload(out, settings, SLOTS);
+                let mut r = Random::of(seed, family::WRONG_PROTOCOL, number);
+                inputs::message_of(&mut r, out);
+                sd.message(out, settings, SLOTS);
+            }
+        }
+    })
+}
+
 /// The service discovery side.
 pub fn service_discovery<P: Calls>(port: &P, plan: &Plan) -> Tally {
     let mut whole = with_sd(port, plan, plan.payloads, one_payload);
@@ -267,10 +349,12 @@ pub fn service_discovery<P: Calls>(port: &P, plan: &Plan) -> Tally {
     whole.add(with_sd(port, plan, plan.payloads / 10, one_alone));
     whole.add(with_sd(port, plan, plan.payloads / 10, one_long_string));
     whole.add(with_sd(port, plan, plan.payloads / 20, one_refused));
+    whole.add(with_sd(port, plan, plan.payloads / 20, one_wrong_protocol));
     whole.add(with_sd(port, plan, plan.payloads / 50, one_foreign));
     if plan.exhaustive > Exhaustive::None {
         whole.add(all_strings(port, plan));
         whole.add(all_short(port, plan));
+        whole.add(all_protocols(port, plan));
     }
     whole
 }
@@ -321,15 +405,27 @@ mod tests {
         {
             assert!(tally.answers.contains_key(&number), "{number}");
         }
-        for number in [21, 22, 30, 34, 35, 36, 38] {
+        for number in [21, 22, 23, 30, 34, 35, 36, 38] {
             assert!(tally.by_document.contains_key(&number), "{number}");
         }
-        for cause in Cause::ALL {
+        for cause in Cause::PLAIN.into_iter().chain(Cause::STRICT) {
             let counts = tally.faults.0[&cause];
             assert!(
                 counts.iter().all(|count| *count >= 300),
                 "{cause}: {counts:?}"
             );
+        }
+        // In front of every answer that comes after all or later options.
+        for number in [0, 7, 8, 9, 10, 11, 12] {
+            assert!(tally.before[&number] >= 100, "{number}");
+        }
+        // 23 under the strict setting alone, and beside it as often acceptance and other refusals.
+        for ((what, settings), counts) in tally.by_settings {
+            let [accepted, strictly, otherwise] = counts;
+            assert_eq!(strictly > 0, settings.strict, "{what}, {settings}");
+            for count in [accepted, strictly, otherwise] {
+                assert!(count == 0 || count >= 500, "{what}, {settings}: {counts:?}");
+            }
         }
     }
 }
