@@ -64,6 +64,7 @@ enum viaductle_number {
     VIADUCTLE_NOTHING_THERE = 20,            /* none: no option or entry at this place */
     VIADUCTLE_TABLE_MISFIT = 21,             /* none: the table does not fit these bytes */
     VIADUCTLE_FEW_SLOTS = 22,                /* slots: fewer than 347 were lent */
+    VIADUCTLE_WRONG_PROTOCOL = 23,           /* protocol (strict setting), place */
     VIADUCTLE_NOT_A_SEGMENT = 30,            /* none */
     VIADUCTLE_SEGMENT_TOO_BIG = 31,          /* offset, length, limit */
     VIADUCTLE_UNALIGNED = 32,                /* offset, length: more follows, and the length is not a multiple of 16 */
@@ -86,16 +87,17 @@ enum viaductle_string_error {
     VIADUCTLE_KEY_CONTAINS_ONLY_WHITESPACE = 6      /* item, place */
 };
 
-/* The place, which is the last value of 7, 8, 9 and 10, is the byte at which it went wrong, counted from 0:
+/* The place, which is the last value of 7, 8, 9, 10 and 23, is the byte at which it went wrong, counted from 0:
  *   7 and 8: the option's first byte;
  *   9: the first byte of the item at fault, which is its length byte; the terminator, where bytes follow it; the string's end, one past its last
  *      byte, where it has no terminator;
- *   10: the byte with the discardable bit, which is the option's fourth.
+ *   10: the byte with the discardable bit, which is the option's fourth;
+ *   23: the byte with the transport protocol, which is the option's byte 9 with an IPv4 address, and its byte 21 with an IPv6 one.
  * It is counted from
  *   the first byte of the options part by `viaductle_read`, `viaductle_read_message` and `viaductle_index`. In a payload that is its byte 12 plus
  *      the entries length, and in a message 16 bytes more;
- *   the option's own first byte by `viaductle_next_option` and `viaductle_read_option`: 0 for 7 and 8, and for 9, whose string begins at the
- *      option's byte 4, at least 4;
+ *   the option's own first byte by `viaductle_next_option` and `viaductle_read_option`: 0 for 7 and 8, 9 or 21 for 23, and for 9, whose string
+ *      begins at the option's byte 4, at least 4;
  *   the string's first byte by `viaductle_string` and `viaductle_next_item`. */
 
 /* A number in words, for a log; of 9, `viaductle_string_name` of values[0] says more, and `viaductle_place` tells the place where there is one.
@@ -125,6 +127,7 @@ static inline const char *viaductle_name(uint64_t number) {
     case VIADUCTLE_NOTHING_THERE: return "nothing there";
     case VIADUCTLE_TABLE_MISFIT: return "table does not fit these bytes";
     case VIADUCTLE_FEW_SLOTS: return "table has too few slots";
+    case VIADUCTLE_WRONG_PROTOCOL: return "transport protocol that the strict setting refuses";
     case VIADUCTLE_NOT_A_SEGMENT: return "not a TP segment";
     case VIADUCTLE_SEGMENT_TOO_BIG: return "segment passes the payload limit";
     case VIADUCTLE_UNALIGNED: return "more follows, and segment length no multiple of 16";
@@ -156,7 +159,8 @@ static inline int viaductle_place(uint64_t number, const uint64_t values[VIADUCT
     switch (number) {
     case VIADUCTLE_OPTION_LENGTH: last = 3; break;
     case VIADUCTLE_OPTION_LENGTH_ZERO: last = 0; break;
-    case VIADUCTLE_UNKNOWN_OPTION: last = 1; break;
+    case VIADUCTLE_UNKNOWN_OPTION:
+    case VIADUCTLE_WRONG_PROTOCOL: last = 1; break;
     case VIADUCTLE_CONFIGURATION_STRING:
         switch (values[0]) {
         case VIADUCTLE_MISSING_TERMINATOR: last = 1; break;
@@ -179,13 +183,18 @@ static inline int viaductle_place(uint64_t number, const uint64_t values[VIADUCT
 /* Slots of the table that reading fills with the options' byte offsets. */
 #define VIADUCTLE_SLOTS 347
 
-/* The bits of `settings`, 0 for none of them. Bits without a name are ignored. */
+/* The bits of `settings`, 0 for none of them. Bits without a name are ignored.
+ * They go to the calls that judge options: `viaductle_read` and `viaductle_read_message`; and `viaductle_index`, `viaductle_next_option` and
+ * `viaductle_read_option`, which never give 10, so that VIADUCTLE_DISCARD changes nothing there. `viaductle_lookup` and `viaductle_next_of_run`
+ * take none: what a reading accepted they find, whatever it was told, and its fields are then read with 0. */
 #define VIADUCTLE_DISCARD 0x1u /* unknown options are accepted although they may not be discarded, so 10 is not given */
+#define VIADUCTLE_STRICT 0x2u  /* endpoints and multicast carry protocol 0x06 (TCP) or 0x11 (UDP), multicast 0x11 alone; otherwise 23 is given */
 
 /* A whole payload.
  *   0: values[0] = the three flags of byte 0 as sent (0x80 reboot, 0x40 unicast, 0x20 explicit initial data control), values[1] = how many
  *      entries, values[2] = how many options.
- *   22, 1 to 6, then the options from the front (7, 8, 9), then 10, then the entries from the front (11, 12). The first refusal counts.
+ *   22, 1 to 6, then the options from the front (7, 8, 9, 23), then 10, then the entries from the front (11, 12). The first refusal counts. Of
+ *   one option 7 and 8 come before 9, which its string gives, or 23, which its protocol gives.
  * The table: after 0, slots 0 to values[2] - 1 hold the offsets and the rest of the 347 hold 0; after a refusal all 347 hold 0; after 22
  * nothing has changed. Slots past 347 are never touched. */
 viaductle_answer viaductle_read(const uint8_t *payload, size_t len, uint16_t *table, size_t slots, uint32_t settings);
@@ -209,21 +218,21 @@ viaductle_places viaductle_parts(const uint8_t *payload, size_t len, viaductle_a
 
 /* The offsets of all options of an options part, unknown ones whether they may be discarded or not.
  *   0: values[0] = how many options.
- *   22, 13, then the options from the front (7, 8, 9). The table is left as by `viaductle_read`. */
-viaductle_answer viaductle_index(const uint8_t *options, size_t len, uint16_t *table, size_t slots);
+ *   22, 13, then the options from the front (7, 8, 9, 23). The table is left as by `viaductle_read`. */
+viaductle_answer viaductle_index(const uint8_t *options, size_t len, uint16_t *table, size_t slots, uint32_t settings);
 
 /* The option of number `ordinal`, from 0, among `count`, by a table; `count` is how many options the reading told that filled the table (values[2]
- * of `viaductle_read`, values[0] of `viaductle_index`). Its configuration string is not scanned again, and nothing is written.
+ * of `viaductle_read`, values[0] of `viaductle_index`). Its string and its protocol are not judged again, and nothing is written.
  *   0: values[0] = its type, values[1] = where it starts in the options part, values[2] = how many bytes it takes (3 more than its length
- *      field). The bytes after its type are values[1] + 3 up to values[1] + values[2]; `viaductle_read_option` of `options + values[1]` gives
- *      its fields.
+ *      field). The bytes after its type are values[1] + 3 up to values[1] + values[2]; `viaductle_read_option` of `options + values[1]`, with
+ *      0 for settings, gives its fields.
  *   20 at or past `count`; 21 past the table's 347 slots or those that were lent, or where no option stands at the slot's offset. */
 viaductle_answer viaductle_lookup(const uint8_t *options, size_t len, const uint16_t *table, size_t slots, size_t count, size_t ordinal);
 
-/* The option that starts at byte `at` of the options part, its string scanned. To go through all: begin at 0, and go on at values[1]
- * + values[2].
- *   0: as `viaductle_lookup`. 20 with no bytes left, otherwise 7, 8, 9, their place counted from `at`. */
-viaductle_answer viaductle_next_option(const uint8_t *options, size_t len, size_t at);
+/* The option that starts at byte `at` of the options part, its string scanned and under VIADUCTLE_STRICT its protocol judged. To go through all:
+ * begin at 0, and go on at values[1] + values[2].
+ *   0: as `viaductle_lookup`. 20 with no bytes left, otherwise 7, 8, 9, 23, their place counted from `at`. */
+viaductle_answer viaductle_next_option(const uint8_t *options, size_t len, size_t at, uint32_t settings);
 
 /* The next option of a run, of which `left` are left, the next of number `next`. To go through a run of an entry: begin with its start and
  * count, and go on at `next + 1` with `left - 1`.
@@ -249,12 +258,14 @@ typedef struct {
     uint64_t priority, weight;                       /* load balancing (0x02) */
     uint64_t address_at, address_len;                /* endpoints and multicast: the address is bytes address_at up to + address_len */
     uint64_t protocol, port;                         /*   of the option, 4 (0x04, 0x14, 0x24) or 16 (0x06, 0x16, 0x26) of them; the
-                                                      *   protocol as sent: 0x06 is TCP, 0x11 is UDP, any other passes too */
+                                                      *   protocol as sent: 0x06 is TCP, 0x11 is UDP, and any other passes too
+                                                      *   but under VIADUCTLE_STRICT */
     uint64_t string_at, string_len;                  /* configuration (0x01): the string */
 } viaductle_option;
 
-/* The option in front of these bytes, its string scanned; later bytes are not read. 7, 8, 9, their place counted from its first byte. */
-viaductle_option viaductle_read_option(const uint8_t *option, size_t len);
+/* The option in front of these bytes, its string scanned and under VIADUCTLE_STRICT its protocol judged; later bytes are not read. 7, 8, 9, 23,
+ * their place counted from its first byte. */
+viaductle_option viaductle_read_option(const uint8_t *option, size_t len, uint32_t settings);
 
 /* ---- service discovery: the entries part */
 

@@ -16,6 +16,13 @@ static const uint8_t payload[] = {
 /* An option of unknown type 0x77 that may not be discarded, and no entry. */
 static const uint8_t unknown[] = {0, 0, 0, 0, 0, 0, 0, 0, 0, 0, 0, 4, 0x00, 0x01, 0x77, 0x00};
 
+/* An IPv4 endpoint and an IPv4 multicast address, both with TCP, and no entry. */
+static const uint8_t multicast[] = {
+    0, 0, 0, 0, 0, 0, 0, 0, 0, 0, 0, 24,
+    0x00, 0x09, 0x04, 0x00, 0xc0, 0xa8, 0x01, 0x01, 0x00, 0x06, 0x1f, 0x90,
+    0x00, 0x09, 0x14, 0x00, 0xef, 0x00, 0x00, 0x01, 0x00, 0x06, 0x77, 0x1a, /* the strict setting refuses its protocol, byte 21 of the options */
+};
+
 /* A good option, and one with a configuration string whose second item has no key; no entry. */
 static const uint8_t no_key[] = {
     0, 0, 0, 0, 0, 0, 0, 0, 0, 0, 0, 13,
@@ -39,10 +46,10 @@ static void show_refusal(const char *what, viaductle_answer answer) {
     printf("\n");
 }
 
-/* The option that was found among these: its address, protocol and port. */
+/* The option that was found among these: its address, protocol and port. The reading has judged it, so no setting is needed. */
 static void show_option(const uint8_t *options, viaductle_answer found) {
     const uint8_t *bytes = options + found.values[1];
-    viaductle_option option = viaductle_read_option(bytes, found.values[2]);
+    viaductle_option option = viaductle_read_option(bytes, found.values[2], 0);
     printf("    option of type 0x%02" PRIx64 ":", option.type);
     for (uint64_t i = 0; i < option.address_len; i++)
         printf("%s%u", i == 0 ? " " : ".", (unsigned)bytes[option.address_at + i]);
@@ -118,6 +125,8 @@ int main(void) {
     show_payload(payload, sizeof payload - 1, 0);
     show_payload(unknown, sizeof unknown, 0);
     show_payload(unknown, sizeof unknown, VIADUCTLE_DISCARD);
+    show_payload(multicast, sizeof multicast, 0);
+    show_payload(multicast, sizeof multicast, VIADUCTLE_STRICT | VIADUCTLE_DISCARD);
     show_payload(no_key, sizeof no_key, 0);
     join_segments();
     return 0;

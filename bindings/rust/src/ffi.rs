@@ -70,8 +70,10 @@ const _: () = assert!(core::mem::size_of::<Places>() == 4 * 8);
 const _: () = assert!(core::mem::size_of::<Entry>() == (1 + VALUES + 15) * 8);
 const _: () = assert!(core::mem::size_of::<Opt>() == (1 + VALUES + 11) * 8);
 
-/// The bit of a reading's settings by which unknown options pass though they may not be discarded.
+/// The bit of the settings by which unknown options pass though they may not be discarded.
 pub(crate) const DISCARD: u32 = 0x1;
+/// The bit of the settings by which an option with an address has to have a protocol that is known for its kind.
+pub(crate) const STRICT: u32 = 0x2;
 
 /// The slots of a table that a reading fills.
 pub(crate) const MAX_SD_OPTIONS: usize = 347;
@@ -105,6 +107,7 @@ mod hub {
             len: usize,
             table: *mut u16,
             slots: usize,
+            settings: u32,
         ) -> Answer;
         pub fn viaductle_parts(payload: *const u8, len: usize, answer: Answer) -> Places;
         pub fn viaductle_lookup(
@@ -115,7 +118,12 @@ mod hub {
             count: usize,
             ordinal: usize,
         ) -> Answer;
-        pub fn viaductle_next_option(options: *const u8, len: usize, at: usize) -> Answer;
+        pub fn viaductle_next_option(
+            options: *const u8,
+            len: usize,
+            at: usize,
+            settings: u32,
+        ) -> Answer;
         pub fn viaductle_next_of_run(
             options: *const u8,
             len: usize,
@@ -129,7 +137,7 @@ mod hub {
         pub fn viaductle_next_item(string: *const u8, len: usize, at: usize) -> Answer;
         pub fn viaductle_read_entry(entry: *const u8, len: usize) -> Entry;
         pub fn viaductle_next_entry(entries: *const u8, len: usize, at: usize) -> Entry;
-        pub fn viaductle_read_option(option: *const u8, len: usize) -> Opt;
+        pub fn viaductle_read_option(option: *const u8, len: usize, settings: u32) -> Opt;
 
         pub fn viaductle_begin(words: *mut u32, len: usize, limit: u32) -> Answer;
         pub fn viaductle_consume(
@@ -165,9 +173,9 @@ pub(crate) fn read_message(message: &[u8], table: &mut [u16], settings: u32) -> 
     unsafe { hub::viaductle_read_message(message.as_ptr(), message.len(), table, slots, settings) }
 }
 
-pub(crate) fn index(options: &[u8], table: &mut [u16]) -> Answer {
+pub(crate) fn index(options: &[u8], table: &mut [u16], settings: u32) -> Answer {
     let (slots, table) = (table.len(), table.as_mut_ptr());
-    unsafe { hub::viaductle_index(options.as_ptr(), options.len(), table, slots) }
+    unsafe { hub::viaductle_index(options.as_ptr(), options.len(), table, slots, settings) }
 }
 
 pub(crate) fn parts(payload: &[u8], answer: Answer) -> Places {
@@ -188,8 +196,8 @@ pub(crate) fn lookup(options: &[u8], table: &[u16], count: usize, ordinal: usize
     }
 }
 
-pub(crate) fn next_option(options: &[u8], at: usize) -> Answer {
-    unsafe { hub::viaductle_next_option(options.as_ptr(), options.len(), at) }
+pub(crate) fn next_option(options: &[u8], at: usize, settings: u32) -> Answer {
+    unsafe { hub::viaductle_next_option(options.as_ptr(), options.len(), at, settings) }
 }
 
 pub(crate) fn next_of_run(
@@ -229,8 +237,8 @@ pub(crate) fn next_entry(entries: &[u8], at: usize) -> Entry {
     unsafe { hub::viaductle_next_entry(entries.as_ptr(), entries.len(), at) }
 }
 
-pub(crate) fn read_option(option: &[u8]) -> Opt {
-    unsafe { hub::viaductle_read_option(option.as_ptr(), option.len()) }
+pub(crate) fn read_option(option: &[u8], settings: u32) -> Opt {
+    unsafe { hub::viaductle_read_option(option.as_ptr(), option.len(), settings) }
 }
 
 pub(crate) fn begin(state: &mut [u32; WORDS], limit: u32) -> Answer {

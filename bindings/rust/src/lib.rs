@@ -29,8 +29,8 @@
 //! # Ok::<(), viaductle::Refusal>(())
 //! ```
 //!
-//! Streams of TP segments are in [`TpBuf`]. What is refused is a [`Refusal`], with the number that the rules give it, and for an option with the
-//! [`Place`] at which it is wrong. docs/MOVING.md leads from someip_parse to this crate, call by call.
+//! What a reading may be told is in [`sd::Settings`]. Streams of TP segments are in [`TpBuf`]. What is refused is a [`Refusal`], with the number that
+//! the rules give it, and for an option with the [`Place`] at which it is wrong. docs/MOVING.md leads from someip_parse to this crate, call by call.
 
 #![no_std]
 #![deny(unsafe_code)]

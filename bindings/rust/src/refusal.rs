@@ -88,6 +88,10 @@ pub enum Refusal {
     TableMisfit,
     /// 22: the lent offset table has too few slots; how many it has.
     TableTooShort(usize),
+    /// 23: an option with an address has a transport protocol that the strict setting refuses. The place is the byte with the protocol: the
+    /// option's byte 9 with an IPv4 address, 21 with an IPv6 one. Never given without [`Settings::strict`](crate::sd::Settings).
+    #[allow(missing_docs)]
+    TransportProtocolInvalid { protocol: u8, place: Place },
     /// 30: the bytes are not one TP segment; someip_parse panics, or refused them earlier.
     NotASegment,
     /// 31: a segment passes the stream's payload limit.
@@ -319,19 +323,21 @@ impl Refusal {
         self.said().0
     }
 
-    /// The rules' values. Those of 9 are which of the six errors it is, counted from 1, and then its numbers; the last of 7 to 10 is the place.
+    /// The rules' values. Those of 9 are which of the six errors it is, counted from 1, and then its numbers; the last of 7 to 10 and of
+    /// 23 is the place.
     pub fn values(&self) -> Values {
         self.said().1
     }
 
-    /// The byte at which an option or a string was refused: of 7, 8, 9 and 10.
+    /// The byte at which an option or a string was refused: of 7, 8, 9, 10 and 23.
     pub fn place(&self) -> Option<Place> {
         use Refusal::*;
         match *self {
             OptionLen { place, .. }
             | OptionLengthZero { place }
             | ConfigurationString { place, .. }
-            | UnknownSdOptionType { place, .. } => Some(place),
+            | UnknownSdOptionType { place, .. }
+            | TransportProtocolInvalid { place, .. } => Some(place),
             _ => None,
         }
     }
@@ -392,6 +398,9 @@ impl Refusal {
             NothingThere => said(20, []),
             TableMisfit => said(21, []),
             TableTooShort(slots) => said(22, [slots as u64]),
+            TransportProtocolInvalid { protocol, place } => {
+                said(23, [protocol.into(), place.byte() as u64])
+            }
             NotASegment => said(30, []),
             SegmentTooBig {
                 offset,
@@ -472,6 +481,10 @@ impl Refusal {
             20 => NothingThere,
             21 => TableMisfit,
             22 => TableTooShort(first as usize),
+            23 => TransportProtocolInvalid {
+                protocol: first as u8,
+                place: counted(second),
+            },
             30 => NotASegment,
             31 => SegmentTooBig {
                 offset: first as u32,
@@ -656,6 +669,10 @@ impl fmt::Display for Refusal {
             TableTooShort(slots) => write!(
                 f,
                 "the lent offset table has {slots} slots; {MAX_SD_OPTIONS} are needed"
+            ),
+            TransportProtocolInvalid { protocol, place } => write!(
+                f,
+                "the transport protocol is {protocol:#04x}, by {place}; the strict setting takes 0x06 (TCP) and 0x11 (UDP), for multicast 0x11 alone"
             ),
             NotASegment => write!(
                 f,

@@ -262,6 +262,7 @@ fn the_constants_are_the_same() {
     for (here, in_c, of, there) in [
         ("VALUES", "VALUES", "refusal", "PLACES"),
         ("DISCARD", "DISCARD", "hub", "DISCARD"),
+        ("STRICT", "STRICT", "hub", "STRICT"),
         ("MAX_SD_OPTIONS", "SLOTS", "sd_index", "SLOTS"),
         ("MAX_LIMIT", "MAX_LIMIT", "tp_stream", "MAX_LIMIT"),
     ] {
@@ -364,6 +365,7 @@ fn the_header_finds_the_place() {
         option_type: 3,
         place,
     };
+    let protocol = Refusal::TransportProtocolInvalid { protocol: 3, place };
     use SdConfigurationStringError::*;
     let string = |error| Refusal::ConfigurationString { error, place };
     let (item_offset, byte_offset, remaining) = (1, 2, 3);
@@ -385,6 +387,7 @@ fn the_header_finds_the_place() {
         ("OPTION_LENGTH", length),
         ("OPTION_LENGTH_ZERO", Refusal::OptionLengthZero { place }),
         ("UNKNOWN_OPTION", unknown),
+        ("WRONG_PROTOCOL", protocol),
         ("MISSING_TERMINATOR", string(MissingTerminator)),
         ("ITEM_LENGTH_EXCEEDS_REMAINING", string(too_long)),
         ("TRAILING_DATA_AFTER_TERMINATOR", string(trailing)),

@@ -118,6 +118,105 @@ fn options_that_may_not_be_discarded() {
     assert!(!a.discardable() && !b.discardable() && !c.discardable());
 }
 
+/// What was read strictly is handed out as it always is: by cursor, by lookup, in runs, and with all its fields.
+#[test]
+fn after_a_strict_reading() {
+    let mut options = hex(OPTIONS);
+    let multicast = options.iter().position(|byte| *byte == 0x99).unwrap();
+    let bytes = payload(&hex(ENTRIES), &options);
+    let mut table = OffsetTable::new();
+    let refusal = SdSlice::from_slice_with(&bytes, &mut table, STRICT).unwrap_err();
+    let place = Place::Options(multicast);
+    let protocol = 0x99;
+    assert_eq!(
+        refusal,
+        Refusal::TransportProtocolInvalid { protocol, place }
+    );
+
+    options[multicast] = 0x11;
+    let bytes = payload(&hex(ENTRIES), &options);
+    let strict = SdSlice::from_slice_with(&bytes, &mut table, STRICT).unwrap();
+    let mut another = OffsetTable::new();
+    let lenient = SdSlice::from_slice(&bytes, &mut another).unwrap();
+    assert_eq!(strict, lenient);
+    assert_eq!(format!("{strict:?}"), format!("{lenient:?}"));
+    let all: Vec<_> = strict.options().map(Result::unwrap).collect();
+    let index = strict.options_index();
+    let by_lookup: Vec<_> = (0..9).map(|place| index.lookup(place).unwrap()).collect();
+    assert_eq!(all, by_lookup);
+    let entries: Vec<_> = strict.entries_with_options().map(Result::unwrap).collect();
+    assert_eq!(entries[1].options_run_1().collect::<Vec<_>>(), all[1..3]);
+    assert_eq!(entries[1].options_run_2().collect::<Vec<_>>(), all[6..9]);
+    let SdOptionSlice::Ipv4Multicast(group) = all[4] else {
+        panic!()
+    };
+    assert_eq!(
+        (
+            group.ipv4_address(),
+            group.transport_protocol(),
+            group.port()
+        ),
+        ([239, 0, 0, 1], TransportProtocol::Udp, 30002)
+    );
+}
+
+/// Neither a lookup nor a run judges a protocol: what an index without the setting let pass is found.
+#[test]
+fn settings_of_an_index() {
+    let options = hex(OPTIONS);
+    let mut table = OffsetTable::new();
+    for settings in EVERY_SETTING {
+        table.fill(5);
+        match SdOptionsIndex::from_slice_with(&options, &mut table, settings) {
+            Ok(index) => {
+                assert!(!settings.strict);
+                let run: Vec<_> = index.run(0, U4::try_new(9).unwrap()).collect();
+                every_kind(&run);
+            }
+            Err(refusal) => {
+                assert!(settings.strict);
+                assert_eq!(refusal.number(), 23);
+                assert_eq!(table, OffsetTable::new());
+            }
+        }
+    }
+    // The discard setting does not matter to an index.
+    let may_not = hex("00017700");
+    for settings in EVERY_SETTING {
+        assert!(SdOptionsIndex::from_slice_with(&may_not, &mut table, settings).is_ok());
+    }
+}
+
+#[test]
+fn settings_of_an_iterator() {
+    let options = hex(OPTIONS);
+    let first_four: Vec<_> = SdOptionsIterator::new(&options).take(4).collect();
+    let place = Place::Alone(9);
+    let protocol = 0x99;
+    let refusal = Refusal::TransportProtocolInvalid { protocol, place };
+    let mut strict = SdOptionsIterator::with(&options, STRICT);
+    assert_eq!(strict.by_ref().take(4).collect::<Vec<_>>(), first_four);
+    let mut cursor = strict.clone();
+    assert_eq!((strict.next(), strict.next()), (Some(Err(refusal)), None));
+    for _ in 0..2 {
+        assert_eq!(cursor.advance(), Err(refusal));
+    }
+    assert_ne!(
+        SdOptionsIterator::with(&options, STRICT),
+        SdOptionsIterator::new(&options)
+    );
+    for settings in EVERY_SETTING {
+        let all: Vec<_> = SdOptionsIterator::with(&options, settings).collect();
+        match settings.strict {
+            true => assert_eq!(all, [&first_four[..], &[Err(refusal)]].concat()),
+            false => every_kind(&all.into_iter().map(Result::unwrap).collect::<Vec<_>>()),
+        }
+        let may_not = hex("00017700");
+        let mut unknown = SdOptionsIterator::with(&may_not, settings);
+        assert!(unknown.next().unwrap().is_ok() && unknown.next().is_none());
+    }
+}
+
 #[test]
 fn entries_and_their_runs() {
     let bytes = payload(&hex(ENTRIES), &hex(OPTIONS));

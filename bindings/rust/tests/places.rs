@@ -32,6 +32,18 @@ const OPTIONS: [(&str, u64, &[u64], usize); 11] = [
 /// Of unknown type, and not to be discarded: only in a payload or a message is it refused.
 const UNKNOWN: (&str, u64, &[u64], usize) = ("0001 78 7F", 10, &[0x78], 3);
 
+/// What the strict setting refuses by 23: the option's type, its protocol, and at which byte that stands.
+const PROTOCOLS: [(u8, u8, usize); 8] = [
+    (0x04, 0x99, 9),
+    (0x06, 0x99, 21),
+    (0x14, 0x99, 9),
+    (0x14, 0x06, 9),
+    (0x16, 0x99, 21),
+    (0x16, 0x06, 21),
+    (0x24, 0x99, 9),
+    (0x26, 0x99, 21),
+];
+
 /// Good options that may stand in front: none, one of four bytes, and three of 25 in all.
 const FRONTS: [&str; 3] = [
     "",
@@ -53,23 +65,43 @@ fn is(refusal: Refusal, number: u64, values: &[u64], place: Place) {
     assert!(text.contains(&format!(" {place}")), "{text}");
 }
 
-/// The same place in a payload and in a message, whatever entries stand in front of the options.
+/// The settings under which there is this refusal: the discard setting passes what is 10, and 23 is the strict setting's alone.
+fn settings_of(number: u64) -> impl Iterator<Item = Settings> {
+    let given = move |settings: &Settings| match number {
+        10 => !settings.discard_unknown_option,
+        23 => settings.strict,
+        _ => true,
+    };
+    EVERY_SETTING.into_iter().filter(given)
+}
+
+/// The same place in a payload and in a message, whatever entries stand in front of the options, under all settings that refuse them.
 fn payloads_are(options: &[u8], number: u64, values: &[u64], place: Place) {
     let mut table = OffsetTable::new();
     for entries in [0, 1, 3] {
         let payload = payload(&hex(FIND).repeat(entries), options);
-        let refusal = SdSlice::from_slice(&payload, &mut table).unwrap_err();
-        is(refusal, number, values, place);
-        let message = [hex(HEADER), payload].concat();
-        let refusal = SdMessage::from_slice(&message, &mut table).unwrap_err();
-        is(refusal, number, values, place);
-        if number != 10 {
-            let discard = Settings {
-                discard_unknown_option: true,
-            };
-            let again = SdMessage::from_slice_with(&message, &mut table, discard);
+        let message = [hex(HEADER), payload.clone()].concat();
+        for settings in settings_of(number) {
+            let refusal = SdSlice::from_slice_with(&payload, &mut table, settings).unwrap_err();
+            is(refusal, number, values, place);
+            let again = SdMessage::from_slice_with(&message, &mut table, settings);
             assert_eq!(again.unwrap_err(), refusal);
         }
+        if number != 23 {
+            let refusal = SdSlice::from_slice(&payload, &mut table).unwrap_err();
+            is(refusal, number, values, place);
+            let again = SdMessage::from_slice(&message, &mut table).unwrap_err();
+            assert_eq!(again, refusal);
+        }
+    }
+}
+
+/// The same place for an index.
+fn index_is(options: &[u8], number: u64, values: &[u64], place: Place) {
+    let mut table = OffsetTable::new();
+    for settings in settings_of(number) {
+        let refusal = SdOptionsIndex::from_slice_with(options, &mut table, settings).unwrap_err();
+        is(refusal, number, values, place);
     }
 }
 
@@ -84,8 +116,17 @@ fn of_the_options() {
             let index = SdOptionsIndex::from_slice(&options, &mut table);
             match number {
                 10 => assert!(index.is_ok()),
-                _ => is(index.unwrap_err(), number, values, place),
+                _ => {
+                    is(index.unwrap_err(), number, values, place);
+                    index_is(&options, number, values, place);
+                }
             }
+        }
+        for (code, protocol, at) in PROTOCOLS {
+            let options = [front.clone(), addressed(code, at, protocol)].concat();
+            let place = Place::Options(front.len() + at);
+            payloads_are(&options, 23, &[protocol.into()], place);
+            index_is(&options, 23, &[protocol.into()], place);
         }
     }
 }
@@ -100,8 +141,13 @@ fn of_the_first_that_is_refused() {
     }
     let unknown = [hex(UNKNOWN.0), hex(UNKNOWN.0), hex(FRONTS[2])].concat();
     payloads_are(&unknown, 10, &[0x78], Place::Options(3));
-    let after = [unknown, zero].concat();
+    let after = [unknown.clone(), zero.clone()].concat();
     payloads_are(&after, 8, &[], Place::Options(33));
+    for (code, protocol, at) in PROTOCOLS {
+        let option = addressed(code, at, protocol);
+        let options = [unknown.clone(), option.clone(), option, zero.clone()].concat();
+        payloads_are(&options, 23, &[protocol.into()], Place::Options(33 + at));
+    }
 }
 
 #[test]
@@ -112,13 +158,29 @@ fn of_one_option() {
             let place = Place::Alone(place);
             let alone = SdOptionSlice::from_slice(&option).unwrap_err();
             is(alone, number, values, place);
+            for settings in settings_of(number) {
+                let again = SdOptionSlice::from_slice_with(&option, settings);
+                assert_eq!(again.unwrap_err(), alone);
+            }
             let options = [front.clone(), option].concat();
             let mut iterator = SdOptionsIterator::new(&options);
             let last = iterator.find_map(Result::err);
             is(last.unwrap(), number, values, place);
         }
+        for (code, protocol, at) in PROTOCOLS {
+            let option = addressed(code, at, protocol);
+            let options = [front.clone(), option.clone()].concat();
+            for settings in settings_of(23) {
+                let alone = SdOptionSlice::from_slice_with(&option, settings).unwrap_err();
+                is(alone, 23, &[protocol.into()], Place::Alone(at));
+                let mut iterator = SdOptionsIterator::with(&options, settings);
+                assert_eq!(iterator.find_map(Result::err), Some(alone));
+            }
+        }
     }
-    assert!(SdOptionSlice::from_slice(&hex(UNKNOWN.0)).is_ok());
+    for settings in EVERY_SETTING {
+        assert!(SdOptionSlice::from_slice_with(&hex(UNKNOWN.0), settings).is_ok());
+    }
     let nothing = SdOptionSlice::from_slice(&[]).unwrap_err();
     is(nothing, 7, &[3, 0, 0], Place::Alone(0));
 }

@@ -289,6 +289,27 @@ fn r20_r21_places() {
 }
 
 #[test]
+fn r23_protocols() {
+    for (code, at) in ADDRESSED {
+        let option = addressed(code, at, 0x99);
+        let payload = payload(&[], &option);
+        let mut table = OffsetTable::new();
+        assert!(SdSlice::from_slice(&payload, &mut table).is_ok());
+        let text = format!(
+            "the transport protocol is 0x99, by byte {at} of the options; the strict setting takes 0x06 (TCP) and 0x11 (UDP), for multicast 0x11 alone"
+        );
+        let values = [0x99, at as u64];
+        let refusal = SdSlice::from_slice_with(&payload, &mut table, STRICT).unwrap_err();
+        is(refusal, 23, &values, &text);
+        let refusal = SdOptionsIndex::from_slice_with(&option, &mut table, STRICT).unwrap_err();
+        is(refusal, 23, &values, &text);
+        let alone = SdOptionSlice::from_slice_with(&option, STRICT).unwrap_err();
+        let text = text.replace(" of the options", " of what was read");
+        is(alone, 23, &values, &text);
+    }
+}
+
+#[test]
 fn r30_to_r38_streams() {
     let mut buffer = [0; 16 + 2048];
     let mut stream = TpBuf::new(1024, &mut buffer[..16 + 512]).unwrap();

@@ -4,12 +4,24 @@ mod common;
 use common::*;
 use viaductle::sd::entries::SdServiceEntryType;
 use viaductle::sd::options::{validate_configuration_string, TransportProtocol};
-use viaductle::sd::{OffsetTable, SdEntrySlice, SdMessage, SdOptionSlice, SdSlice, Settings};
-use viaductle::{Refusal, TpBuf};
+use viaductle::sd::{
+    OffsetTable, SdEntrySlice, SdMessage, SdOptionSlice, SdOptionsIndex, SdSlice, Settings,
+};
+use viaductle::{Place, Refusal, TpBuf};
 
 /// The number and values of a payload's refusal, or 0 and the counts of entries and options.
 fn read(payload: &[u8], discard: bool) -> (u64, Vec<u64>) {
-    match SdSlice::from_slice_with_flag(payload, &mut OffsetTable::new(), discard) {
+    let mut table = OffsetTable::new();
+    answer(SdSlice::from_slice_with_flag(payload, &mut table, discard))
+}
+
+fn read_with(payload: &[u8], settings: Settings) -> (u64, Vec<u64>) {
+    let mut table = OffsetTable::new();
+    answer(SdSlice::from_slice_with(payload, &mut table, settings))
+}
+
+fn answer(read: Result<SdSlice, Refusal>) -> (u64, Vec<u64>) {
+    match read {
         Ok(sd) => {
             let counts = [sd.entries().count(), sd.options().count()];
             (0, counts.map(|n| n as u64).to_vec())
@@ -116,6 +128,126 @@ fn unknown_options() {
     assert_eq!(read(&may_not, true), (0, vec![0, 1]));
 }
 
+/// Every protocol in every kind with an address, under both values of both settings.
+#[test]
+fn protocols() {
+    for (code, at) in ADDRESSED {
+        for protocol in 0..=255 {
+            let option = addressed(code, at, protocol);
+            let payload = payload(&[], &option);
+            let known = protocol == 0x11 || (protocol == 0x06 && !is_multicast(code));
+            for settings in EVERY_SETTING {
+                let passes = known || !settings.strict;
+                let expected = match passes {
+                    true => (0, vec![0, 1]),
+                    false => (23, vec![protocol.into(), at as u64]),
+                };
+                assert_eq!(read_with(&payload, settings), expected, "{code:#04x}");
+                let alone = SdOptionSlice::from_slice_with(&option, settings);
+                assert_eq!(alone.is_ok(), passes, "{code:#04x}, {protocol:#04x}");
+            }
+            assert!(SdOptionSlice::from_slice(&option).is_ok());
+        }
+    }
+}
+
+/// The kinds without an address have no protocol: the bytes that would be one are free under the strict setting too.
+#[test]
+fn protocols_of_no_other_kind() {
+    let free = "99".repeat(16);
+    let options = format!(
+        "0015 01 00 12613D{free}00
+        0005 02 00 99999999
+        0015 77 80 {free}99999999
+        0009 34 80 9999999999999999"
+    );
+    let payload = payload(&[], &hex(&options));
+    for settings in EVERY_SETTING {
+        assert_eq!(read_with(&payload, settings), (0, vec![0, 4]));
+    }
+}
+
+/// What options that break two rules are under the strict setting, and without it.
+fn strictly_and_not(entries: &[u8], options: &[u8]) -> [(u64, Vec<u64>); 2] {
+    let bytes = payload(entries, options);
+    [read_with(&bytes, STRICT), read(&bytes, false)]
+}
+
+#[test]
+fn lengths_before_protocols() {
+    for (code, at) in ADDRESSED {
+        let cut = &addressed(code, at, 0x99)[..at + 2];
+        let short = (7, vec![at as u64 + 3, at as u64 + 2, 0, 0]);
+        assert_eq!(strictly_and_not(&[], cut), [short.clone(), short]);
+        // As long as the other three kinds: 21 bytes for 9, and 9 for 21.
+        let long = addressed(code, 30 - at, 0x99);
+        let misfit = (7, vec![at as u64, 30 - at as u64, 1, 0]);
+        assert_eq!(strictly_and_not(&[], &long), [misfit.clone(), misfit]);
+    }
+}
+
+#[test]
+fn protocols_among_options() {
+    let wrong = addressed(0x04, 9, 0x99);
+    let protocol = |at| (23, vec![0x99, at]);
+    // Another option's refusal: number, the values in front of the place, and the place in that option.
+    for (other, number, values, place) in [
+        ("0001 02 80", 7, &[5, 1, 1][..], 0),
+        ("0000 77", 8, &[], 0),
+        ("0001 01 00", 9, &[1], 4),
+    ] {
+        let refused = |at: u64| (number, [values, &[at + place]].concat());
+        let later = [wrong.clone(), hex(other)].concat();
+        assert_eq!(strictly_and_not(&[], &later), [protocol(9), refused(12)]);
+        let earlier = [hex(other), wrong.clone()].concat();
+        assert_eq!(strictly_and_not(&[], &earlier), [refused(0), refused(0)]);
+    }
+    let later = [&wrong[..], &[0, 1]].concat();
+    let short = (7, vec![3, 2, 0, 12]);
+    assert_eq!(strictly_and_not(&[], &later), [protocol(9), short]);
+    // Of two protocols the first; 10 after all options, wherever the unknown one stands.
+    let multicast = addressed(0x14, 9, 0x06);
+    let both = [multicast, wrong.clone()].concat();
+    let first = (23, vec![0x06, 9]);
+    assert_eq!(strictly_and_not(&[], &both), [first, (0, vec![0, 2])]);
+    let unknown = hex("0001 77 00");
+    let later = [&wrong[..], &unknown].concat();
+    let earlier = [unknown, wrong].concat();
+    let refused = |place| (10, vec![0x77, place]);
+    assert_eq!(strictly_and_not(&[], &later), [protocol(9), refused(15)]);
+    assert_eq!(strictly_and_not(&[], &earlier), [protocol(13), refused(3)]);
+}
+
+/// The table and the sizes come before the protocols, the entries after them.
+#[test]
+fn protocols_among_the_rest() {
+    let wrong = addressed(0x04, 9, 0x99);
+    let bytes = payload(&[], &wrong);
+    let mut short = [7; 346];
+    let few = Refusal::TableTooShort(346);
+    let refused = SdSlice::from_slice_with(&bytes, &mut short, STRICT);
+    assert_eq!(refused, Err(few));
+    let refused = SdOptionsIndex::from_slice_with(&wrong, &mut short, STRICT);
+    assert_eq!(refused, Err(few));
+    let many = wrong.repeat(116);
+    let mut table = OffsetTable::new();
+    let refused = SdOptionsIndex::from_slice_with(&many, &mut table, STRICT);
+    assert_eq!(refused, Err(Refusal::OptionsArrayLengthTooLarge(1392)));
+
+    let long = [&bytes[..], &[0]].concat();
+    assert_eq!(read_with(&long, STRICT), (6, vec![24, 25]));
+    assert_eq!(read_with(&bytes[..23], STRICT), (1, vec![24]));
+
+    let entry = |at: usize, byte: u8| with("01000010 12345678 01000E10 01000000", at, byte);
+    let protocol = || (23, vec![0x99, 9]);
+    let unknown = (11, vec![5]);
+    let both = strictly_and_not(&entry(0, 5), &wrong);
+    assert_eq!(both, [protocol(), unknown]);
+    let run = (12, vec![1, 1, 1, 1]);
+    let both = strictly_and_not(&entry(1, 1), &wrong);
+    assert_eq!(both, [protocol(), run]);
+}
+
 #[test]
 fn strings() {
     for (text, values) in [
@@ -148,12 +280,27 @@ fn messages() {
     assert_eq!(sd.sd().entries_slice(), &message[24..40]);
 
     let unknown = [hex(HEADER), payload(&[], &hex("00017700"))].concat();
-    let discard = Settings {
-        discard_unknown_option: true,
-    };
+    let discard = Settings::new().discard_unknown_option(true);
     assert!(SdMessage::from_slice_with(&unknown, &mut table, discard).is_ok());
     let refusal = SdMessage::from_slice(&unknown, &mut table).unwrap_err();
     assert_eq!(refusal.number(), 10);
+
+    // The endpoint's TCP is known; of multicast it would be 23, counted from the options as in a payload.
+    assert!(SdMessage::from_slice_with(&message, &mut table, STRICT).is_ok());
+    let mut multicast = message.clone();
+    multicast[16 + 28 + 2] = 0x14;
+    assert!(SdMessage::from_slice_with(&multicast, &mut table, discard).is_ok());
+    let refusal = SdMessage::from_slice_with(&multicast, &mut table, STRICT).unwrap_err();
+    let place = Place::Options(9);
+    let protocol = 0x06;
+    assert_eq!(
+        refusal,
+        Refusal::TransportProtocolInvalid { protocol, place }
+    );
+    // The header comes first.
+    multicast[15] = 9;
+    let refusal = SdMessage::from_slice_with(&multicast, &mut table, STRICT).unwrap_err();
+    assert_eq!(refusal, Refusal::SdReturnCodeInvalid(9));
 }
 
 #[test]

@@ -59,7 +59,7 @@ fn said(refusal: Refusal, values: &[u64]) -> String {
 /// A value that no text has.
 const WHICH: u64 = 7_777_777;
 
-/// Where 7 to 10 went wrong. What `bin/show` reads is a payload or a message, whose places count from the options.
+/// Where 7 to 10 and 23 went wrong. What `bin/show` reads is a payload or a message, whose places count from the options.
 const BYTE: usize = 6001;
 const PLACE: Place = Place::Options(BYTE);
 
@@ -151,6 +151,13 @@ fn bin_show_says_the_same() {
         (
             UnknownSdOptionType {
                 option_type: 201,
+                place: PLACE,
+            },
+            &[201, 6001],
+        ),
+        (
+            TransportProtocolInvalid {
+                protocol: 201,
                 place: PLACE,
             },
             &[201, 6001],

@@ -1,6 +1,6 @@
 //! The offset table that a caller lends, the options found by their place, and runs of them.
 
-use super::{entries::U4, SdOptionSlice};
+use super::{entries::U4, SdOptionSlice, Settings};
 use crate::{ffi, Refusal};
 use core::fmt;
 use core::ops::{Deref, DerefMut};
@@ -69,12 +69,22 @@ pub struct SdOptionsIndex<'a, 't> {
 }
 
 impl<'a, 't> SdOptionsIndex<'a, 't> {
-    /// Reads an options part into the lent table. Refused by 22, 13, then 7, 8 and 9 of the first option that is wrong, whose place is counted from
-    /// the part's first byte.
+    /// Reads an options part into the lent table, all settings off. Refused by 22, 13, then 7, 8 and 9 of the first option that is wrong, whose place
+    /// is counted from the part's first byte.
     ///
     /// After a refusal the table's 347 slots hold 0; after 22 nothing has changed. Slots past 347 are never touched.
     pub fn from_slice(options: &'a [u8], table: &'t mut [u16]) -> Result<Self, Refusal> {
-        let [len, ..] = ffi::index(options, table).accepted_among_options()?;
+        Self::from_slice_with(options, table, Settings::new())
+    }
+
+    /// The same as the settings say: under the strict setting also refused by 23. Unknown options pass in any case.
+    pub fn from_slice_with(
+        options: &'a [u8],
+        table: &'t mut [u16],
+        settings: Settings,
+    ) -> Result<Self, Refusal> {
+        let answer = ffi::index(options, table, settings.word());
+        let [len, ..] = answer.accepted_among_options()?;
         Ok(Self::from_table(options, table, len as usize))
     }
 

@@ -1,6 +1,8 @@
 //! Entries and options from the front, and entries with their runs of options.
 
-use super::{entries::ENTRY_LEN, SdEntrySlice, SdOptionRunIter, SdOptionSlice, SdOptionsIndex};
+use super::{
+    entries::ENTRY_LEN, SdEntrySlice, SdOptionRunIter, SdOptionSlice, SdOptionsIndex, Settings,
+};
 use crate::{ffi, Refusal};
 
 /// What an iterator hands out for a cursor's answer: nothing at the end, and nothing more after a refusal.
@@ -59,24 +61,47 @@ impl<'a> Iterator for SdEntriesIterator<'a> {
 #[derive(Clone, PartialEq, Eq)]
 pub struct SdOptionsIterator<'a> {
     options: &'a [u8],
+    settings: Settings,
     at: usize,
     ended: bool,
 }
 
 impl<'a> SdOptionsIterator<'a> {
-    /// The options of these bytes.
+    /// The options of these bytes, all settings off.
     pub fn new(options: &'a [u8]) -> Self {
+        Self::with(options, Settings::new())
+    }
+
+    /// The options of these bytes as the settings say: under the strict setting also refused by 23. Unknown options pass in any case.
+    ///
+    /// ```
+    /// use viaductle::sd::{SdOptionsIterator, Settings};
+    ///
+    /// // A multicast address with UDP, and one with TCP.
+    /// let options = [
+    ///     0, 9, 0x14, 0, 239, 0, 0, 1, 0, 0x11, 0x77, 0x1a, //
+    ///     0, 9, 0x14, 0, 239, 0, 0, 1, 0, 0x06, 0x77, 0x1a,
+    /// ];
+    /// assert_eq!(SdOptionsIterator::new(&options).filter(Result::is_ok).count(), 2);
+    ///
+    /// let mut strict = SdOptionsIterator::with(&options, Settings::new().strict(true));
+    /// assert!(strict.next().unwrap().is_ok());
+    /// assert_eq!(strict.next().unwrap().unwrap_err().number(), 23);
+    /// assert!(strict.next().is_none());
+    /// ```
+    pub fn with(options: &'a [u8], settings: Settings) -> Self {
         SdOptionsIterator {
             options,
+            settings,
             at: 0,
             ended: false,
         }
     }
 
-    /// The next option, or why there is none: 20 at the end, 7, 8 and 9 of an option that is wrong, with the place counted from that option's
+    /// The next option, or why there is none: 20 at the end, 7, 8, 9 and 23 of an option that is wrong, with the place counted from that option's
     /// first byte. A refusal leaves the iterator where it was.
     pub fn advance(&mut self) -> Result<SdOptionSlice<'a>, Refusal> {
-        let answer = ffi::next_option(self.options, self.at);
+        let answer = ffi::next_option(self.options, self.at, self.settings.word());
         let option = SdOptionSlice::found(answer, self.options)?;
         let [_, at, size, ..] = answer.values;
         self.at = (at + size) as usize;

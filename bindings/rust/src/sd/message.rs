@@ -25,15 +25,15 @@ pub struct SdMessage<'a, 't> {
 }
 
 impl<'a, 't> SdMessage<'a, 't> {
-    /// Reads a message into the lent table, unknown options that may not be discarded refused.
+    /// Reads a message into the lent table, all settings off.
     ///
     /// Refused by 22, 1 with 16 below 16 bytes, 14 to 19, then as a payload is, all bytes after the header being the payload; places too are
     /// those of the payload. The length field and the protocol version are not judged.
     pub fn from_slice(message: &'a [u8], table: &'t mut [u16]) -> Result<Self, Refusal> {
-        Self::from_slice_with(message, table, Settings::default())
+        Self::from_slice_with(message, table, Settings::new())
     }
 
-    /// The same as the settings say.
+    /// The same as the settings say; under the strict setting also refused by 23, as a payload is.
     pub fn from_slice_with(
         message: &'a [u8],
         table: &'t mut [u16],

@@ -1,7 +1,7 @@
 //! One option. Its kind, its part and its fields are read by the library; a configuration option's string and its discardable bit are cut
 //! off its part here, since lookups do not scan the string again.
 
-use super::{iterators::handed, shown::All};
+use super::{iterators::handed, shown::All, Settings};
 use crate::{ffi, Refusal};
 use core::fmt;
 use core::net::IpAddr;
@@ -9,7 +9,7 @@ use core::net::IpAddr;
 /// The bit of an option's first byte by which a receiver may discard it.
 pub const DISCARDABLE_FLAG: u8 = 0x80;
 
-/// The transport protocol of an endpoint. Reading does not judge it.
+/// The transport protocol of an endpoint or a multicast address. Only the strict setting judges it: TCP or UDP, and for multicast UDP.
 #[derive(Clone, Copy, Debug, PartialEq, Eq, Hash)]
 #[allow(missing_docs)]
 pub enum TransportProtocol {
@@ -290,7 +290,7 @@ macro_rules! addressed {
                 self.address
             }
 
-            /// The transport protocol, which reading does not judge.
+            /// The transport protocol, which only the strict setting judges.
             pub fn transport_protocol(&self) -> TransportProtocol {
                 self.transport_protocol
             }
@@ -385,22 +385,32 @@ impl fmt::Debug for SdOptionSlice<'_> {
 const HEADER: usize = 3;
 
 impl<'a> SdOptionSlice<'a> {
-    /// The option in front of these bytes, and the bytes after it. Refused by 7, 8 and 9, with the place counted from its first byte.
+    /// The option in front of these bytes, and the bytes after it, all settings off. Refused by 7, 8 and 9, with the place counted from its
+    /// first byte.
     pub fn from_slice(slice: &'a [u8]) -> Result<(Self, &'a [u8]), Refusal> {
-        let read = ffi::read_option(slice);
+        Self::from_slice_with(slice, Settings::new())
+    }
+
+    /// The same as the settings say: under the strict setting also refused by 23. An unknown option passes in any case.
+    pub fn from_slice_with(
+        slice: &'a [u8],
+        settings: Settings,
+    ) -> Result<(Self, &'a [u8]), Refusal> {
+        let read = ffi::read_option(slice, settings.word());
         read.answer.accepted()?;
         let (option, rest) = slice.split_at(read.size as usize);
         Ok((Self::of(&read, option), rest))
     }
 
-    /// The option that a lookup or a cursor found among `options`. A configuration string is not scanned again.
+    /// The option that a lookup or a cursor found among `options`. What was judged is not judged again: a configuration string is not scanned,
+    /// and the other kinds' fields are read with all settings off.
     pub(super) fn found(answer: ffi::Answer, options: &'a [u8]) -> Result<Self, Refusal> {
         let [code, at, size, ..] = answer.accepted()?;
         let option = &options[at as usize..][..size as usize];
         if code == CONFIGURATION {
             return Ok(Self::configuration(option));
         }
-        let read = ffi::read_option(option);
+        let read = ffi::read_option(option, Settings::new().word());
         read.answer.accepted()?;
         Ok(Self::of(&read, option))
     }

@@ -6,27 +6,71 @@ use super::{
 };
 use crate::{ffi, Refusal};
 
-/// What a reading may be told.
+/// What a reading may be told. All settings are off at first, and each is turned on by its name. A further one will change nothing that is written
+/// so, nor a literal that ends with `..Default::default()`.
 ///
 /// ```
 /// use viaductle::sd::Settings;
 ///
-/// let settings = Settings { discard_unknown_option: true, ..Default::default() };
+/// const BOTH: Settings = Settings::new().strict(true).discard_unknown_option(true);
+/// assert!(BOTH.strict && BOTH.discard_unknown_option);
+/// assert_eq!(Settings::new(), Settings::default());
+/// assert_eq!(Settings::new().strict(true), Settings { strict: true, ..Default::default() });
+/// ```
+///
+/// A multicast address with TCP, which the strict setting refuses:
+///
+/// ```
+/// use viaductle::sd::{OffsetTable, SdSlice, Settings};
+/// use viaductle::{Place, Refusal};
+///
+/// let payload = [
+///     0, 0, 0, 0, 0, 0, 0, 0, 0, 0, 0, 12, // no entries; 12 bytes of options
+///     0, 9, 0x14, 0, 239, 0, 0, 1, 0, 0x06, 0x77, 0x1a,
+/// ];
+/// let mut table = OffsetTable::new();
+/// assert!(SdSlice::from_slice(&payload, &mut table).is_ok());
+///
+/// let strict = Settings::new().strict(true);
+/// let refusal = SdSlice::from_slice_with(&payload, &mut table, strict).unwrap_err();
+/// let place = Place::Options(9);
+/// assert_eq!(refusal, Refusal::TransportProtocolInvalid { protocol: 0x06, place });
 /// ```
 #[derive(Clone, Copy, Debug, Default, PartialEq, Eq, Hash)]
 pub struct Settings {
-    /// Whether an option of unknown type passes though it may not be discarded; otherwise it is 10.
+    /// Whether an option of unknown type passes though it may not be discarded; otherwise it is 10. An index, an option alone and an iterator pass
+    /// it in any case.
     pub discard_unknown_option: bool,
+    /// Whether the six kinds of options with an address have to have the transport protocol 0x06 (TCP) or 0x11 (UDP), and the two multicast ones
+    /// 0x11; with another one it is 23. Otherwise any protocol passes.
+    pub strict: bool,
 }
 
 impl Settings {
+    /// All settings off.
+    pub const fn new() -> Self {
+        Settings {
+            discard_unknown_option: false,
+            strict: false,
+        }
+    }
+
+    /// These settings with [`discard_unknown_option`](#structfield.discard_unknown_option) turned on or off.
+    pub const fn discard_unknown_option(mut self, on: bool) -> Self {
+        self.discard_unknown_option = on;
+        self
+    }
+
+    /// These settings with [`strict`](#structfield.strict) turned on or off.
+    pub const fn strict(mut self, on: bool) -> Self {
+        self.strict = on;
+        self
+    }
+
     /// The word of bits that the library is told.
     pub(super) fn word(self) -> u32 {
-        if self.discard_unknown_option {
-            ffi::DISCARD
-        } else {
-            0
-        }
+        let bit = |on: bool, bit: u32| if on { bit } else { 0 };
+        bit(self.discard_unknown_option, ffi::DISCARD) | bit(self.strict, ffi::STRICT)
     }
 }
 
@@ -52,7 +96,7 @@ pub struct SdHeaderFlags {
 /// assert_eq!((refusal.number(), refusal.values()[0]), (10, 0x77));
 /// assert_eq!(refusal.place(), Some(Place::Options(3)));
 ///
-/// let settings = Settings { discard_unknown_option: true, ..Default::default() };
+/// let settings = Settings::new().discard_unknown_option(true);
 /// let sd = SdSlice::from_slice_with(&payload, &mut table, settings)?;
 /// assert_eq!((sd.entries().count(), sd.options().count()), (0, 1));
 /// println!("{sd:#?}"); // for a person: flags, and each entry and option by its fields
@@ -66,12 +110,13 @@ pub struct SdSlice<'a, 't> {
 }
 
 impl<'a, 't> SdSlice<'a, 't> {
-    /// Reads a payload into the lent table, unknown options that may not be discarded refused.
+    /// Reads a payload into the lent table, all settings off: unknown options that may not be discarded are refused, and any transport protocol
+    /// passes.
     ///
     /// Refused by 22, 1 to 9, 10, 11 and 12, in the rules' order; the place of 7 to 10 is counted from the options part's first byte. After a
     /// refusal the table's 347 slots hold 0; after 22 nothing has changed. Slots past 347 are never touched.
     pub fn from_slice(payload: &'a [u8], table: &'t mut [u16]) -> Result<Self, Refusal> {
-        Self::from_slice_with(payload, table, Settings::default())
+        Self::from_slice_with(payload, table, Settings::new())
     }
 
     /// [`from_slice_with`](Self::from_slice_with), told the one setting that someip_parse has.
@@ -80,13 +125,12 @@ impl<'a, 't> SdSlice<'a, 't> {
         table: &'t mut [u16],
         discard_unknown_option: bool,
     ) -> Result<Self, Refusal> {
-        let settings = Settings {
-            discard_unknown_option,
-        };
+        let settings = Settings::new().discard_unknown_option(discard_unknown_option);
         Self::from_slice_with(payload, table, settings)
     }
 
-    /// Reads a payload into the lent table as the settings say; refusals as with [`from_slice`](Self::from_slice).
+    /// Reads a payload into the lent table as the settings say; refusals as with [`from_slice`](Self::from_slice), and under the strict setting
+    /// 23 of an option, after its 7 and before anything of a later one. What is then handed out does not depend on the settings any more.
     pub fn from_slice_with(
         payload: &'a [u8],
         table: &'t mut [u16],
