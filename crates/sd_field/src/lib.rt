@@ -6,13 +6,13 @@ mod places; // places.rt: the numbers and the addresses at their places
 pub use codes::code_of;
 use places::address_at;
 use places::number16;
+use places::width_of;
 use refusal::Refusal;
 use sd_option::Settings;
 use sd_option::kinds::Family;
 use sd_option::kinds::OptionKind;
 use sd_option::kinds::Role;
 use sd_option::kinds::kind_of;
-use sd_option::kinds::width_of;
 use sd_option::reading::DISCARDABLE;
 use sd_option::reading::FRAME_LEN;
 use sd_option::reading::OptionAnswer;

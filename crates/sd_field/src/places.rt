@@ -27,6 +27,16 @@ fn number32(s: &[u8], place: usize) -> u32
     be32(s[place], s[place + 1], s[place + 2], s[place + 3])
 }
 
+// How many bytes an address has.
+pub(crate) fn width_of(family: Family) -> usize
+    ensures { λ r. ⌜ r ≡ width (family-said family) ⌝ }
+{
+    match family {
+        Family::Ipv4 => 4,
+        Family::Ipv6 => 16,
+    }
+}
+
 // The address behind the first byte.
 pub(crate) fn address_at(family: Family, body: &[u8]) -> IpAddress
     requires { ⌜ 1 + width (family-said family) ≤ length (now body) ⌝ }

@@ -4,6 +4,7 @@ use crate::Offset;
 use crate::Ordinal;
 use crate::SLOTS;
 use refusal::Refusal;
+use sd_option::PLAIN;
 use sd_option::reading::OptionAnswer;
 use sd_option::reading::OptionHead;
 use sd_option::reading::read_option_unscanned;
@@ -49,7 +50,7 @@ pub fn look_up(options: &[u8], table: &[u16], count: usize, ordinal: Ordinal) ->
         return FoundAnswer::Refused(Refusal::TableMisfit);
     }
     let offset = Offset(table[place] as usize);
-    let answer = read_option_unscanned(option_at(options, offset));
+    let answer = read_option_unscanned(PLAIN, option_at(options, offset));
     let OptionAnswer::Good(head) = answer else {
         return FoundAnswer::Refused(Refusal::TableMisfit);
     };

@@ -12,10 +12,10 @@ use refusal::Refusal;
 use refusal::Verdict;
 use refusal::moved;
 use sd_option::Settings;
-use sd_option::reading::CONTENT_START;
 use sd_option::reading::OptionAnswer;
-use sd_option::reading::judge_content;
+use sd_option::reading::STRING_START;
 use sd_option::reading::read_option_unscanned;
+use sd_option::reading::scan;
 ghost use Prim.Native.Nat.{_≤_};
 ghost use lib.ListN.{length};
 ghost use Rattle.sd_format.specs.Frames.{read-index};
@@ -32,13 +32,13 @@ fn sweep(settings: Settings, options: &[u8], table: &mut [u16]) -> Count
     let mut permission = Verdict::Passed;
     while at.0 < options.len() {
         let rest = option_at(options, at);
-        let answer = read_option_unscanned(rest); // read_option, in its two halves
+        let answer = read_option_unscanned(settings, rest); // read_option, in its two halves
         let OptionAnswer::Good(head) = answer else {
             return Count::Refused(moved(answer.refusal(), at.0));
         };
-        let content = judge_content(settings, head, rest);
-        let Verdict::Passed = content else {
-            return Count::Refused(moved(content.refusal(), at.0 + CONTENT_START));
+        let string = scan(head, rest);
+        let Verdict::Passed = string else {
+            return Count::Refused(moved(string.refusal(), at.0 + STRING_START));
         };
         let start = at;
         write_slot(table, count, start);

@@ -1,29 +1,22 @@
--- The kinds: a type that is none of the table's codes is unknown; what is said of kinds and of lengths keeps them apart; which protocols a role
--- may carry. Assumes nothing.
+-- The kinds: a type that is none of the table's codes is unknown; what is said of kinds keeps them apart; lengths and protocols out of the code's form. Assumes nothing.
 use mathlib.Core.Path.{_≡_, refl, sym, ap, _∙_, subst}
 use mathlib.Core.Logic.{_≢_}
-use mathlib.Core.Bool.{Bool, true, false, not, _||_}
-use mathlib.Core.List.{List, [], _∷_}
-use Prim.Native.Nat.{ℕ, _≤_}
-use native.Mathlib.Omega.{arith}
-use lib.Dec.{T, eqb}
+use mathlib.Core.Bool.{not}
+use mathlib.Core.List.{List}
+use Prim.Native.Nat.{ℕ}
+use lib.Dec.{T}
 use types.Run.{OneOf, miss}
 use mir.Val.{hasKey}
 use denote.Enum.Declared
-use borrow.Author.Tests.{eq-eqb, ne-eqb}
-use Rattle.sd_format.specs.Options.{ipv4, ipv6, endpoint, multicast, sd-endpoint, width}
+use borrow.Author.Tests.{ne-eqb}
+use Rattle.sd_format.specs.Options.{Family, ipv4, ipv6, Role, endpoint, multicast, sd-endpoint}
 use Rattle.sd_format.specs.Kinds.{Kind, configuration, load-balancing, address, unknown, Length, exactly, one-or-more, row, row-of, row-in, kinds, may-carry}
-use Rattle.sd_option.specs.declared.kinds.Family.{Family}
 use Rattle.sd_option.specs.declared.kinds.Family.the-variants.{Ipv4, Ipv6}
-use Rattle.sd_option.specs.declared.kinds.Role.{Role}
 use Rattle.sd_option.specs.declared.kinds.Role.the-variants.{Endpoint, Multicast, SdEndpoint}
 use Rattle.sd_option.specs.declared.kinds.OptionKind.{OptionKind}
 use Rattle.sd_option.specs.declared.kinds.OptionKind.the-variants as kind
-use Rattle.sd_option.specs.declared.kinds.KindLength.{KindLength}
-use Rattle.sd_option.specs.declared.kinds.KindLength.the-variants as len
 use Rattle.sd_option.proofs.kinds.OptionKind.{the-type}
-use Rattle.sd_option.proofs.kinds.Role.{the-type as role-type}
-use Rattle.sd_option.specs.Kinds.{family-said, role-said, kind-said, length-encoded}
+use Rattle.sd_option.specs.Kinds.{kind-said, length-encoded, protocols-encoded, length-said, taken}
 
 pub unlisted : (t : ℕ) → t ≢ 0x01 → t ≢ 0x02 → t ≢ 0x04 → t ≢ 0x14 → t ≢ 0x24 → t ≢ 0x06 → t ≢ 0x16 → t ≢ 0x26 → row-of t ≡ row t unknown one-or-more
 unfolding row-of row-in kinds
@@ -66,38 +59,14 @@ tag k = Declared.tagOf the-type k
 pub other-arm : (here k : OptionKind) (tags : List ℕ) → T (not (hasKey tags (tag here))) → OneOf tags (tag k) → kind-said k ≢ kind-said here
 other-arm here k tags none o same = miss tags (tag here) none (subst (OneOf tags) (ap tag (kind-one-to-one k here same)) o)
 
--- ---- the length that a row asks, out of the code's form
+-- ---- out of the code's form: the length that a row asks, and the protocols
 
-abbrev pub decoded : KindLength → Length
-decoded (len.Exactly n) = exactly n
-decoded len.OneOrMore = one-or-more
+pub length-back : (l : Length) → length-said (length-encoded l) ≡ l
+length-back (exactly n) = refl
+length-back one-or-more = refl
 
-pub decoded-encoded : (l : Length) → decoded (length-encoded l) ≡ l
-decoded-encoded (exactly n) = refl
-decoded-encoded one-or-more = refl
-
--- no address has more than sixteen bytes
-pub few-wide : (family : Family) → width (family-said family) ≤ 16
-few-wide Ipv4 = omega arith
-few-wide Ipv6 = omega arith
-
--- ---- which protocols a role may carry
-
-module _ (role : Role) (p : ℕ) where
-  pub multicast-carries : role ≡ Multicast → eqb p 0x11 ≡ may-carry (role-said role) p
-  unfolding may-carry
-  multicast-carries e = sym (ap (λ (r : Role). may-carry (role-said r) p) e)
-
-  -- a role that is not multicast, by its variant
-  either : (role : Role) → OneOf (0 ∷ 2 ∷ []) (Declared.tagOf role-type role) → may-carry (role-said role) p ≡ (eqb p 0x06 || eqb p 0x11)
-  unfolding may-carry
-  either Endpoint o = refl
-  either Multicast o = absurd (miss (0 ∷ 2 ∷ []) 1 tt o)
-  either SdEndpoint o = refl
-
-  module _ (o : OneOf (0 ∷ 2 ∷ []) (Declared.tagOf role-type role)) where
-    pub tcp-carried : p ≡ 0x06 → eqb p 0x06 ≡ may-carry (role-said role) p
-    tcp-carried e = rw (either role o, eq-eqb p 0x06 e)
-
-    pub udp-carried : p ≢ 0x06 → eqb p 0x11 ≡ may-carry (role-said role) p
-    udp-carried other = rw (either role o, ne-eqb p 0x06 other)
+pub taken-carried : (family : Family) (role : Role) (p : ℕ) → taken (protocols-encoded (address family role)) p ≡ may-carry role p
+unfolding may-carry
+taken-carried family endpoint p = refl
+taken-carried family multicast p = refl
+taken-carried family sd-endpoint p = refl

@@ -1,13 +1,11 @@
--- Any two answers that one promise of this crate allows are the same one. (A part is promised byte by byte, so there is nothing to show of it.)
--- Assumes nothing.
+-- Any two answers that one promise of this crate allows are the same one. (A part is promised byte by byte, and a verdict is kept apart by what is
+-- said of it, so there is nothing to show of them.) Assumes nothing.
 use Prim.Native.Nat.{ℕ}
 use mathlib.Core.Path.{_≡_, sym, ap, _∙_}
-use Rattle.numbers.specs.Answers as answers
-use Rattle.numbers.specs.Answers.{Answer, further}
-use Rattle.numbers.proofs.AnswerLaws.{accepted-inj, not-refused, further-one}
-use Rattle.refusal.specs.declared.answers.Verdict.{Verdict}
-use Rattle.refusal.specs.Said.{said, verdict-said}
-use Rattle.refusal.proofs.OneToOne.{same-refusal, verdict-one-to-one}
+use Rattle.numbers.specs.Answers.{Answer}
+use Rattle.numbers.proofs.AnswerLaws.{accepted-inj, not-refused}
+use Rattle.refusal.specs.Said.{said}
+use Rattle.refusal.proofs.OneToOne.{same-refusal}
 use Rattle.sd_format.specs.Kinds.{kind-of}
 use Rattle.sd_option.specs.declared.kinds.OptionKind.{OptionKind}
 use Rattle.sd_option.specs.declared.reading.OptionHead.{OptionHead}
@@ -20,10 +18,6 @@ use Rattle.sd_option.proofs.KindLaws.{kind-one-to-one}
 -- `kind_of`
 pub one-kind : (t : ℕ) (x y : OptionKind) → kind-said x ≡ kind-of t → kind-said y ≡ kind-of t → x ≡ y
 one-kind t x y a b = kind-one-to-one x y (a ∙ sym b)
-
--- `judge_content`
-pub one-content : (told : answers.Verdict) (x y : Verdict) → further 4 (verdict-said x) ≡ told → further 4 (verdict-said y) ≡ told → x ≡ y
-one-content told x y a b = verdict-one-to-one x y (further-one 4 _ _ (a ∙ sym b))
 
 -- `read_option`, `read_option_unscanned`
 pub option-one-to-one : (x y : OptionAnswer) → option-said x ≡ option-said y → x ≡ y

@@ -1,25 +1,25 @@
--- The reading of one option: its frame, test by test; what an answer to it says of the definitions; what it holds after all else. Assumes nothing.
+-- The reading of one option: its frame, test by test; its protocol, where the code finds it; what an answer to it says of the definitions; its string
+-- after all else. Assumes nothing.
 use mathlib.Core.Path.{_≡_, refl, sym, ap, _∙_, subst}
 use mathlib.Core.Logic.{_≢_}
-use mathlib.Core.Bool.{Bool, true, false, cond}
+use mathlib.Core.Bool.{Bool, true, false, and-false}
 use mathlib.Core.List.{List, [], _∷_}
 use Prim.Native.Nat.{ℕ, suc, _+_, _*_, _-_, _≤_, _<_}
 use native.Mathlib.Omega.{arith}
 use lib.ListN.{length, take, drop, getD, length-drop}
-use types.Run.{OneOf, miss}
+use lib.Dec.{eqb}
 use lib.Seq.{length-take-le, getD-take, getD-drop, drop-drop, take-nil}
-use borrow.Author.Tests.{lt-ltb, le-ltb, eq-eqb, ne-eqb}
+use borrow.Author.Tests.{lt-ltb, le-ltb, eq-eqb, ne-eqb, eqb-true}
 use Rattle.numbers.specs.Refusals.{Refusal, moved, option-length, option-length-zero, wrong-protocol}
 use Rattle.numbers.specs.Answers.{Answer, accepted, refused, Verdict, pass, _>>=_, _>>_, refuse_when_else_, further, given}
 use Rattle.numbers.specs.Bytes.{at16}
-use Rattle.numbers.proofs.AnswerLaws.{given-accepted, given-refused, then-accepted}
+use Rattle.numbers.proofs.AnswerLaws.{given-accepted, given-refused, then-accepted, when-hit, when-pass, refuse-pass}
 use Rattle.sd_format.specs.Settings.{Settings}
-use Rattle.sd_format.specs.Options as format
-use Rattle.sd_format.specs.Options.{has, width, protocol}
-use Rattle.sd_format.specs.Kinds.{Kind, configuration, load-balancing, address, unknown, Row, row-of, kind-of, judge-length, string-alone, may-carry, judge-protocol, judge-content, unscanned, judge-kind}
+use Rattle.sd_format.specs.Options.{Family, ipv4, ipv6, Role, has, width, protocol}
+use Rattle.sd_format.specs.Kinds.{Kind, configuration, load-balancing, address, unknown, exactly, Row, row, row-of, kind-of, judge-length, judge-protocol, judge-content, unscanned, judge-kind}
+use Rattle.sd_format.specs.Layout.{lay-type, lay-length}
 use Rattle.sd_format.specs.Frames.{Frame, frame, one-option, read-option}
-use Rattle.sd_format.specs.Layout.{lay-type}
-use Rattle.sd_format.proofs.KindLaws.{row-load-balancing, row-address, row-unknown, type-cases, high-end}
+use Rattle.sd_format.proofs.KindLaws.{row-configuration, row-load-balancing, row-address, row-unknown, type-cases}
 use Rattle.sd_format.proofs.FrameLaws.{frame-says, option-says}
 use Rattle.sd_format.proofs.FaultLaws.{option-told}
 use Rattle.refusal.specs.declared.Refusal as code
@@ -27,16 +27,14 @@ use Rattle.refusal.specs.declared.answers.Verdict as answers
 use Rattle.refusal.specs.declared.answers.Verdict.the-variants as verdict
 use Rattle.refusal.specs.Said.{said, verdict-said, most, moved-capped}
 use Rattle.refusal.proofs.PlaceLaws.{uncapped}
-use Rattle.sd_option.specs.declared.kinds.Family.{Family}
-use Rattle.sd_option.specs.declared.kinds.Role.{Role}
-use Rattle.sd_option.specs.declared.kinds.OptionKind.{OptionKind}
-use Rattle.sd_option.specs.declared.kinds.OptionKind.the-variants as kind
+use Rattle.sd_option.specs.declared.kinds.Protocols.{Protocols}
+use Rattle.sd_option.specs.declared.kinds.Protocols.the-variants.{Unasked}
 use Rattle.sd_option.specs.declared.reading.OptionHead.{OptionHead}
 use Rattle.sd_option.specs.declared.reading.OptionAnswer.{OptionAnswer}
 use Rattle.sd_option.specs.declared.reading.OptionAnswer.the-variants as option
-use Rattle.sd_option.specs.Kinds.{family-said, role-said, kind-said}
-use Rattle.sd_option.specs.Reading.{head-of, option-said, behind-type, body-length, strict-verdict, last-judged}
-use Rattle.sd_option.proofs.KindLaws.{tag}
+use Rattle.sd_option.specs.Kinds.{protocols-encoded, taken}
+use Rattle.sd_option.specs.Reading.{head-of, option-said, behind-type, body-length, carried, protocol-verdict, string-verdict, Halves}
+use Rattle.sd_option.proofs.KindLaws.{taken-carried}
 
 -- ---- the frame
 
@@ -82,42 +80,80 @@ framed s n e =
     let same : f ≡ front s (length (f .body)) = rw (w .type-at, w .body-at) in
     subst (Framed s) len (record { some = w .some-body; within = w .within; reads = reads ∙ ap accepted same })
 
--- ---- one option but for what it holds
+-- ---- what the code says of a protocol
 
-then-pass : (v : Verdict) → (v >> pass) ≡ v
-unfolding _>>_
-then-pass (accepted u) = refl
-then-pass (refused r) = refl
+module _ (g : Settings) (asked : Protocols) (p place : ℕ) where
+  pub carried-off : g .strict ≡ false → pass ≡ carried g asked p place
+  carried-off off = sym (when-pass _ _ _ (rw off))
 
-by-length : (type : ℕ) (body : List ℕ) → judge-kind unscanned type body ≡ judge-length (row-of type .len) (length body)
-unfolding judge-kind
-by-length type body = then-pass _
+  pub carried-taken : taken asked p ≡ true → pass ≡ carried g asked p place
+  carried-taken is = sym (when-pass _ _ _ (rw is (and-false (g .strict))))
+
+  pub carried-not : g .strict ≡ true → taken asked p ≡ false → refused (wrong-protocol p place) ≡ carried g asked p place
+  carried-not on other = sym (when-hit _ _ _ (rw (on, other)))
+
+-- the protocol of an option whose length is its kind's stands two bytes before its end, which is where its length counts to from the option's start
+module _ (g : Settings) (s : List ℕ) (n : ℕ) where
+  abbrev Told : Row → Type 0
+  Told w = judge-length (w .len) n ≡ pass → carried g (protocols-encoded (w .kind)) (getD s n 0) n ≡ protocol-verdict g (w .kind) (take n (drop 3 s))
+
+  unasked : pass ≡ carried g Unasked (getD s n 0) n
+  unasked = carried-taken g Unasked (getD s n 0) n refl
+
+  beside : (family : Family) (role : Role) (code : ℕ) → Told (row code (address family role) (exactly (lay-length family)))
+  unfolding judge-length judge-protocol
+  beside family role code fits =
+      let long : n ≡ lay-length family = eqb-true n (lay-length family) (refuse-pass _ (eqb n (lay-length family)) .0 fits) in
+      let place : n ≡ 5 + width family = long ∙ length-of family in
+      let there : protocol family (take n (drop 3 s)) ≡ getD s n 0 =
+      getD-take n (drop 3 s) (2 + width family) 0 (omega arith) ∙ getD-drop 3 s (2 + width family) 0 ∙ ap (λ (i : ℕ). getD s i 0) (sym (place ∙ omega arith)) in
+      rw (there, ← place, taken-carried family role (getD s n 0)) refl
+    where
+      length-of : (f : Family) → lay-length f ≡ 5 + width f
+      length-of ipv4 = refl
+      length-of ipv6 = refl
+
+  pub protocol-there : (type : ℕ) → Told (row-of type)
+  protocol-there type =
+      type-cases type
+      (λ t. by-row t row-configuration (λ fits. sym unasked))
+      (λ t. by-row t row-load-balancing (λ fits. sym unasked))
+      (λ family role t. by-row t (row-address family role) (beside family role (lay-type family role)))
+      (λ u. subst Told (sym (row-unknown type u)) (λ fits. sym unasked))
+    where
+      by-row : {code : ℕ} {w : Row} → type ≡ code → row-of code ≡ w → Told w → Told (row-of type)
+      by-row t is told = subst Told (sym (ap row-of t ∙ is)) told
+
+-- ---- one option, test by test, whatever judges what it holds
 
 pub frame-refused : (content : Kind → List ℕ → Verdict) (s : List ℕ) (r : Refusal) → frame s ≡ refused r → one-option content s ≡ refused r
 unfolding one-option _>>=_
 frame-refused content s r e = rw e
 
-module _ (s : List ℕ) (n : ℕ) (t : Framed s n) where
-  length-decides : one-option unscanned s ≡ (judge-length (row-of (getD s 2 0) .len) n >> accepted (front s n))
-  unfolding one-option _>>=_
-  length-decides = rw (t .reads, by-length, front-length s n (t .within))
+module _ (content : Kind → List ℕ → Verdict) (s : List ℕ) (n : ℕ) (t : Framed s n) where
+  kind-decides : one-option content s ≡ ((judge-length (row-of (getD s 2 0) .len) n >> content (kind-of (getD s 2 0)) (take n (drop 3 s))) >> accepted (front s n))
+  unfolding one-option judge-kind _>>=_
+  kind-decides = rw (t .reads, front-length s n (t .within))
 
-  -- by what the code says of the length
-  module _ (v : answers.Verdict) (judged : verdict-said v ≡ judge-length (row-of (getD s 2 0) .len) n) where
-    pub length-refused : (q : code.Refusal) → v ≡ verdict.Refused q → one-option unscanned s ≡ refused (said q)
+  pub length-refused : (r : Refusal) → judge-length (row-of (getD s 2 0) .len) n ≡ refused r → one-option content s ≡ refused r
+  unfolding _>>_
+  length-refused r e = kind-decides ∙ rw e
+
+  module _ (fits : judge-length (row-of (getD s 2 0) .len) n ≡ pass) where
+    pub content-refused : (r : Refusal) → content (kind-of (getD s 2 0)) (take n (drop 3 s)) ≡ refused r → one-option content s ≡ refused r
     unfolding _>>_
-    length-refused q e = length-decides ∙ rw (← judged, e)
+    content-refused r e = kind-decides ∙ rw (fits, e)
 
-    pub length-passed : v ≡ verdict.Passed → one-option unscanned s ≡ accepted (front s n)
+    pub content-passed : content (kind-of (getD s 2 0)) (take n (drop 3 s)) ≡ pass → one-option content s ≡ accepted (front s n)
     unfolding _>>_
-    length-passed e = length-decides ∙ rw (← judged, e)
+    content-passed e = kind-decides ∙ rw (fits, e)
 
-  pub front-head : (d : Bool) → d ≡ has (getD s 3 0) 0x80 → head-of (front s n) ≡ record { code = getD s 2 0; discardable = d; size = 3 + n }
-  front-head d bit =
-      let b : getD (take n (drop 3 s)) 0 0 ≡ getD s 3 0 = getD-take n (drop 3 s) 0 0 (t .some) ∙ getD-drop 3 s 0 0 in
-      rw (b, bit, front-length s n (t .within))
+pub front-head : (s : List ℕ) (n : ℕ) → Framed s n → (d : Bool) → d ≡ has (getD s 3 0) 0x80 → head-of (front s n) ≡ record { code = getD s 2 0; discardable = d; size = 3 + n }
+front-head s n t d bit =
+    let b : getD (take n (drop 3 s)) 0 0 ≡ getD s 3 0 = getD-take n (drop 3 s) 0 0 (t .some) ∙ getD-drop 3 s 0 0 in
+    rw (b, bit, front-length s n (t .within))
 
--- ---- what an answer says, whatever judged the content
+-- ---- what an answer says, whatever judged what it holds
 
 -- the option whose head was told
 pub record Found (content : Kind → List ℕ → Verdict) (s : List ℕ) (h : OptionHead) : Type 0 where
@@ -155,133 +191,89 @@ module _ (content : Kind → List ℕ → Verdict) (s : List ℕ) where
     pub not-found : (q : code.Refusal) → a ≡ option.Refused q → one-option content s ≡ refused (said q)
     not-found q e = given-refused head-of (one-option content s) (said q) (sym told ∙ ap option-said e)
 
--- ---- what it holds, judged after all else
+-- ---- the string, scanned after all else
 
-after-length : (v w : Verdict) (f : Frame) (content : Frame → Verdict) → content f ≡ w
-    → ((v >> w) >> accepted f) ≡ ((v >> accepted f) >>= λ g. content g >> accepted g)
+then-pass : (v : Verdict) → (v >> pass) ≡ v
+unfolding _>>_
+then-pass (accepted u) = refl
+then-pass (refused r) = refl
+
+-- what a kind holds, in two halves
+pub halves : (g : Settings) (k : Kind) (body : List ℕ) → Halves g k body
+unfolding judge-content judge-protocol _>>_ further
+halves g configuration body = record { both = refl; first = λ off. refl }
+halves g load-balancing body = record { both = refl; first = λ off. refl }
+halves g (address family role) body = record { both = sym (then-pass _); first = λ off. when-pass _ _ _ (rw off) }
+halves g unknown body = record { both = refl; first = λ off. refl }
+
+in-turn : (v w string : Verdict) (f : Frame) (scanned : Frame → Verdict) → scanned f ≡ string
+    → ((v >> (w >> string)) >> accepted f) ≡ (((v >> w) >> accepted f) >>= λ g. scanned g >> accepted g)
 unfolding _>>_ _>>=_
-after-length (accepted u) w f content e = rw e refl
-after-length (refused r) w f content e = refl
+in-turn (accepted u) (accepted x) string f scanned e = rw e refl
+in-turn (accepted u) (refused r) string f scanned e = refl
+in-turn (refused r) w string f scanned e = refl
 
--- the reading of one option is the reading without its content, and then its content
-content-last : (content : Kind → List ℕ → Verdict) (s : List ℕ)
-    → one-option content s ≡ (one-option unscanned s >>= λ f. content (kind-of (f .type)) (f .body) >> accepted f)
+-- the reading of one option is the reading without its string, and then its string
+string-last : (g : Settings) (s : List ℕ)
+    → read-option g s ≡ (one-option (protocol-verdict g) s >>= λ f. further 4 (string-verdict (kind-of (f .type)) (f .body)) >> accepted f)
 unfolding one-option judge-kind _>>=_
-content-last content s = go (frame s)
+string-last g s = go (frame s)
   where
-    held : Frame → Verdict
-    held f = content (kind-of (f .type)) (f .body)
+    string : Frame → Verdict
+    string f = further 4 (string-verdict (kind-of (f .type)) (f .body))
 
-    go : (a : Answer Frame) → (a >>= λ f. judge-kind content (f .type) (f .body) >> accepted f)
-        ≡ ((a >>= λ f. judge-kind unscanned (f .type) (f .body) >> accepted f) >>= λ f. held f >> accepted f)
-    go (accepted f) = rw by-length (after-length (judge-length (row-of (f .type) .len) (length (f .body))) (held f) f held refl)
+    go : (a : Answer Frame) → (a >>= λ f. judge-kind (judge-content g) (f .type) (f .body) >> accepted f)
+        ≡ ((a >>= λ f. judge-kind (protocol-verdict g) (f .type) (f .body) >> accepted f) >>= λ f. string f >> accepted f)
+    go (accepted f) =
+        let asked = judge-length (row-of (f .type) .len) (length (f .body)) in
+        rw (halves g (kind-of (f .type)) (f .body) .both) (in-turn asked (protocol-verdict g (kind-of (f .type)) (f .body)) (string f) f string refl)
     go (refused r) = refl
 
--- an option refused before what it holds is refused
-pub refused-before : (g : Settings) (s : List ℕ) (r : Refusal) → one-option unscanned s ≡ refused r → read-option g s ≡ refused r
+-- an option refused before its string is refused
+pub refused-before : (g : Settings) (s : List ℕ) (r : Refusal) → one-option (protocol-verdict g) s ≡ refused r → read-option g s ≡ refused r
 unfolding _>>=_
-refused-before g s r e = content-last (judge-content g) s ∙ rw e refl
+refused-before g s r e = string-last g s ∙ rw e refl
 
--- one that was read is as what it holds is, by what the code says of that, counted from its fifth byte
-module _ (g : Settings) (s : List ℕ) (h : OptionHead) (t : Found unscanned s h) (v : answers.Verdict)
-    (told : further 4 (verdict-said v) ≡ judge-content g (kind-of (h .code)) (behind-type s (h .size))) where
-  content-decides : read-option g s ≡ (further 4 (verdict-said v) >> accepted (front s (h .size - 3)))
+-- one that was read is as its string is, by what the code says of that
+module _ (g : Settings) (s : List ℕ) (h : OptionHead) (t : Found (protocol-verdict g) s h) (v : answers.Verdict)
+    (told : verdict-said v ≡ string-verdict (kind-of (h .code)) (behind-type s (h .size))) where
+  string-decides : read-option g s ≡ (further 4 (verdict-said v) >> accepted (front s (h .size - 3)))
   unfolding _>>=_
-  content-decides = content-last (judge-content g) s ∙ rw (t .reads, told, le-ltb (length s) (h .size) (t .within), t .type) refl
+  string-decides = string-last g s ∙ rw (t .reads, told, le-ltb (length s) (h .size) (t .within), t .type) refl
 
-  pub content-refused : (q : code.Refusal) → v ≡ verdict.Refused q → read-option g s ≡ refused (moved 4 (said q))
+  pub string-refused : (q : code.Refusal) → v ≡ verdict.Refused q → read-option g s ≡ refused (moved 4 (said q))
   unfolding _>>_ further
-  content-refused q e = content-decides ∙ rw e
+  string-refused q e = string-decides ∙ rw e
 
-  pub content-passed : v ≡ verdict.Passed → Found (judge-content g) s h
+  pub string-passed : v ≡ verdict.Passed → Found (judge-content g) s h
   unfolding _>>_ further
-  content-passed e = record { some = t .some; within = t .within; type = t .type; fits = t .fits; reads = content-decides ∙ rw e; head = t .head }
+  string-passed e = record { some = t .some; within = t .within; type = t .type; fits = t .fits; reads = string-decides ∙ rw e; head = t .head }
 
 -- the place that it is refused at is one that a `usize` holds, as all its bytes are
 pub moved-in-option : (g : Settings) (s : List ℕ) (n : ℕ) (r : Refusal) → read-option g s ≡ refused (moved n r) → length s ≤ most → moved-capped n r ≡ moved n r
 moved-in-option g s n r e few = let (p, there, low) = option-told g s (moved n r) e in uncapped n r p there (omega arith)
 
--- ---- what the code says of what an option holds
-
--- a string is judged as it is alone, its place counted from the option
-pub string-held : (g : Settings) (v : answers.Verdict) (body : List ℕ) → verdict-said v ≡ string-alone (drop 1 body)
-    → further 4 (verdict-said v) ≡ judge-content g configuration body
-unfolding judge-content
-string-held g v body e = ap (further 4) e
-
--- under the strict setting every other kind is judged by its protocol alone, and without it by nothing
-pub strictly-held : (g : Settings) (k : Kind) (body : List ℕ) → g .strict ≡ true → k ≢ configuration → strict-verdict k body ≡ judge-content g k body
-unfolding judge-content
-strictly-held g configuration body on other = absurd (other refl)
-strictly-held g load-balancing body on other = refl
-strictly-held g (address family role) body on other = rw on
-strictly-held g unknown body on other = refl
-
-pub freely-held : (g : Settings) (k : Kind) (body : List ℕ) → g .strict ≡ false → k ≢ configuration → pass ≡ judge-content g k body
-unfolding judge-content judge-protocol refuse_when_else_
-freely-held g configuration body off other = absurd (other refl)
-freely-held g load-balancing body off other = refl
-freely-held g (address family role) body off other = rw off
-freely-held g unknown body off other = refl
-
--- a type above the last that is judged holds nothing to judge
-pub nothing-held : (g : Settings) (type : ℕ) (body : List ℕ) → last-judged g < type → further 4 pass ≡ judge-content g (kind-of type) body
-unfolding further judge-content
-nothing-held g type body above =
-    type-cases type
-    (λ t. absurd (omega (arith, above, t, low-end g)))
-    (λ t. by-row t row-load-balancing refl)
-    (λ family role t. by-row t (row-address family role) (free (g .strict) refl family role t))
-    (λ u. ap (λ (q : Row). judge-content g (q .kind) body) (sym (row-unknown type u)))
+-- without its string and with no setting on it is what lookup reads
+pub lookup-reads : (g : Settings) (s : List ℕ) → g .strict ≡ false → one-option (protocol-verdict g) s ≡ one-option unscanned s
+unfolding one-option judge-kind _>>=_
+lookup-reads g s off = go (frame s)
   where
-    low-end : (k : Settings) → 1 ≤ last-judged k
-    low-end k = at-least (k .strict)
-      where
-        at-least : (strict : Bool) → 1 ≤ cond strict 0x26 0x01
-        at-least true = omega arith
-        at-least false = omega arith
+    go : (a : Answer Frame) → (a >>= λ f. judge-kind (protocol-verdict g) (f .type) (f .body) >> accepted f)
+        ≡ (a >>= λ f. judge-kind unscanned (f .type) (f .body) >> accepted f)
+    go (accepted f) = rw (halves g (kind-of (f .type)) (f .body) .first off)
+    go (refused r) = refl
 
-    by-row : {code : ℕ} {q : Row} → type ≡ code → row-of code ≡ q → pass ≡ judge-content g (q .kind) body → pass ≡ judge-content g (kind-of type) body
-    by-row t row e = e ∙ sym (ap (λ (q : Row). judge-content g (q .kind) body) (ap row-of t ∙ row))
+-- only a configuration option has one
+pub no-string : (k : Kind) (body : List ℕ) → k ≢ configuration → string-verdict k body ≡ pass
+no-string configuration body h = absurd (h refl)
+no-string load-balancing body h = refl
+no-string (address family role) body h = refl
+no-string unknown body h = refl
 
-    free : (strict : Bool) → g .strict ≡ strict → (family : format.Family) (role : format.Role) → type ≡ lay-type family role → pass ≡ judge-protocol (g .strict) family role body
-    free true on family role t = absurd (omega (arith, above, t, high-end family role, ap {B = ℕ} (λ (b : Bool). cond b 0x26 0x01) on))
-    free false off family role t = freely-held g (address family role) body off (λ e. let z : _≡_ {A = ℕ} 0 1 = cc in absurd (omega arith))
+-- ---- the string as the code takes it: all bytes after the first
 
--- a kind with no address has no protocol
-pub no-protocol : (k : OptionKind) (body : List ℕ) → OneOf (0 ∷ 1 ∷ 3 ∷ []) (tag k) → further 4 pass ≡ strict-verdict (kind-said k) body
-unfolding further
-no-protocol kind.Configuration body o = refl
-no-protocol kind.LoadBalancing body o = refl
-no-protocol (kind.Address family role) body o = absurd (miss (0 ∷ 1 ∷ 3 ∷ []) 2 tt o)
-no-protocol kind.Unknown body o = refl
-
--- an option with an address, by the protocol `p` that stands behind its first byte
-module _ (k : OptionKind) (family : Family) (role : Role) (is : k ≡ kind.Address family role) (body : List ℕ) (p : ℕ)
-    (there : p ≡ getD (drop 1 body) (1 + width (family-said family)) 0) where
-  protocol-is : protocol (family-said family) body ≡ p
-  protocol-is =
-      let place : 1 + (1 + width (family-said family)) ≡ 2 + width (family-said family) = omega arith in
-      sym (there ∙ getD-drop 1 body (1 + width (family-said family)) 0 ∙ ap (λ (i : ℕ). getD body i 0) place)
-
-  verdict-is : strict-verdict (kind-said k) body ≡ judge-protocol true (family-said family) (role-said role) body
-  verdict-is = ap (λ (x : OptionKind). strict-verdict (kind-said x) body) is
-
-  pub may : may-carry (role-said role) p ≡ true → further 4 pass ≡ strict-verdict (kind-said k) body
-  unfolding further judge-protocol refuse_when_else_
-  may passes = sym (verdict-is ∙ rw (protocol-is, passes))
-
-  pub may-not : (w : ℕ) → w ≡ width (family-said family) → may-carry (role-said role) p ≡ false
-      → further 4 (refused (wrong-protocol p (1 + w))) ≡ strict-verdict (kind-said k) body
-  unfolding further judge-protocol refuse_when_else_
-  may-not w wide fails =
-      let place : 4 + (1 + w) ≡ 5 + width (family-said family) = omega arith in
-      rw place (sym (verdict-is ∙ rw (protocol-is, fails)))
-
--- ---- what it holds as the code takes it: all bytes after the first
-
-pub content-place : (s : List ℕ) (k : ℕ) → 4 ≤ k → drop 1 (take (k - 3) (drop 3 s)) ≡ take (k - 4) (drop 4 s)
-content-place s k h =
+pub string-place : (s : List ℕ) (k : ℕ) → 4 ≤ k → drop 1 (take (k - 3) (drop 3 s)) ≡ take (k - 4) (drop 4 s)
+string-place s k h =
     let e : k - 3 ≡ suc (k - 4) = omega arith in
     ap (λ (n : ℕ). drop 1 (take n (drop 3 s))) e ∙ past-first (k - 4) (drop 3 s) ∙ ap (take (k - 4)) (drop-drop 1 3 s)
   where
@@ -290,11 +282,11 @@ content-place s k h =
     past-first n (x ∷ l) = refl
 
 module _ (s : List ℕ) (n : ℕ) where
-  pub content-cut : length s < n → [] ≡ drop 1 (behind-type s n)
-  content-cut h = rw (lt-ltb (length s) n h)
+  pub string-cut : length s < n → [] ≡ drop 1 (behind-type s n)
+  string-cut h = rw (lt-ltb (length s) n h)
 
-  pub content-none : n ≤ length s → n < 4 → [] ≡ drop 1 (behind-type s n)
-  content-none within few = let e : n - 3 ≡ 0 = omega arith in rw (le-ltb (length s) n within, e)
+  pub string-none : n ≤ length s → n < 4 → [] ≡ drop 1 (behind-type s n)
+  string-none within few = let e : n - 3 ≡ 0 = omega arith in rw (le-ltb (length s) n within, e)
 
-  pub content-there : n ≤ length s → 4 ≤ n → take (n - 4) (drop 4 s) ≡ drop 1 (behind-type s n)
-  content-there within some = rw (le-ltb (length s) n within) (sym (content-place s n some))
+  pub string-there : n ≤ length s → 4 ≤ n → take (n - 4) (drop 4 s) ≡ drop 1 (behind-type s n)
+  string-there within some = rw (le-ltb (length s) n within) (sym (string-place s n some))

@@ -1,5 +1,8 @@
 -- What the code's kinds say, and the rules' table in the code's form. Assumes nothing: these are definitions.
+use Prim.Native.Nat.{ℕ}
+use mathlib.Core.Bool.{Bool, true, _||_}
 use mathlib.Core.List.{List, map}
+use lib.Dec.{eqb}
 use Rattle.sd_format.specs.Options as format
 use Rattle.sd_format.specs.Kinds.{Kind, configuration, load-balancing, address, unknown, Length, exactly, one-or-more, Row, kinds}
 use Rattle.sd_option.specs.declared.kinds.Family.{Family}
@@ -10,6 +13,8 @@ use Rattle.sd_option.specs.declared.kinds.OptionKind.{OptionKind}
 use Rattle.sd_option.specs.declared.kinds.OptionKind.the-variants as kind
 use Rattle.sd_option.specs.declared.kinds.KindLength.{KindLength}
 use Rattle.sd_option.specs.declared.kinds.KindLength.the-variants as len
+use Rattle.sd_option.specs.declared.kinds.Protocols.{Protocols}
+use Rattle.sd_option.specs.declared.kinds.Protocols.the-variants as protocols
 use Rattle.sd_option.specs.declared.kinds.KindRow.{KindRow}
 
 abbrev pub family-said : Family → format.Family
@@ -33,12 +38,33 @@ abbrev pub length-encoded : Length → KindLength
 length-encoded (exactly n) = len.Exactly n
 length-encoded one-or-more = len.OneOrMore
 
+-- the protocols that are asked for, by the role of an address
+abbrev pub protocols-encoded : Kind → Protocols
+protocols-encoded configuration = protocols.Unasked
+protocols-encoded load-balancing = protocols.Unasked
+protocols-encoded (address f format.endpoint) = protocols.TcpOrUdp
+protocols-encoded (address f format.multicast) = protocols.UdpOnly
+protocols-encoded (address f format.sd-endpoint) = protocols.TcpOrUdp
+protocols-encoded unknown = protocols.Unasked
+
 abbrev pub encoded : Row → KindRow
-encoded w = record { code = w .code; len = length-encoded (w .len) }
+encoded w = record { code = w .code; len = length-encoded (w .len); protocols = protocols-encoded (w .kind) }
 
 abbrev pub rows : List KindRow
 rows = map encoded kinds
 
 -- what a place past its end would hold
 abbrev pub blank : KindRow
-blank = record { code = 0; len = len.Exactly 0 }
+blank = record { code = 0; len = len.Exactly 0; protocols = protocols.Unasked }
+
+-- ---- and out of it
+
+abbrev pub length-said : KindLength → Length
+length-said (len.Exactly n) = exactly n
+length-said len.OneOrMore = one-or-more
+
+-- whether it is one of the protocols that are asked for
+abbrev pub taken : Protocols → (protocol : ℕ) → Bool
+taken protocols.Unasked p = true
+taken protocols.TcpOrUdp p = eqb p 0x06 || eqb p 0x11
+taken protocols.UdpOnly p = eqb p 0x11

@@ -1,20 +1,24 @@
 -- What the answers of the reading of one option say, in the words of the definitions. Assumes nothing: these are definitions.
 use Prim.Native.Nat.{ℕ, _-_}
-use mathlib.Core.Bool.{true, cond}
+use mathlib.Core.Path.{_≡_}
+use mathlib.Core.Bool.{false, not, _&&_, cond}
 use mathlib.Core.List.{List, []}
 use lib.ListN.{length, take, drop}
 use lib.Dec.{ltb}
-use Rattle.numbers.specs.Answers.{Answer, accepted, refused, Verdict, pass}
+use Rattle.numbers.specs.Refusals.{wrong-protocol}
+use Rattle.numbers.specs.Answers.{Answer, accepted, refused, Verdict, pass, _>>_, refuse_when_else_, further}
 use Rattle.sd_format.specs.Settings.{Settings}
-use Rattle.sd_format.specs.Kinds.{Kind, configuration, load-balancing, address, unknown, judge-protocol}
+use Rattle.sd_format.specs.Kinds.{Kind, configuration, load-balancing, address, unknown, string-alone, judge-protocol, judge-content, unscanned}
 use Rattle.sd_format.specs.Frames.{Frame, size}
 use Rattle.sd_format.specs.Fields.{discardable}
 use Rattle.refusal.specs.Said.{said}
 use Rattle.refusal.specs.declared.Refusal.{Refusal}
 use Rattle.refusal.specs.declared.Refusal.the-variants.{NothingThere}
+use Rattle.sd_option.specs.declared.kinds.Protocols.{Protocols}
 use Rattle.sd_option.specs.declared.reading.OptionHead.{OptionHead}
 use Rattle.sd_option.specs.declared.reading.OptionAnswer.{OptionAnswer}
 use Rattle.sd_option.specs.declared.reading.OptionAnswer.the-variants as option
+use Rattle.sd_option.specs.Kinds.{taken}
 
 -- what is told of an option: its type, the discardable bit, the bytes that it takes
 abbrev pub head-of : Frame → OptionHead
@@ -40,13 +44,28 @@ body-length f = length (f .body)
 abbrev pub behind-type : List ℕ → ℕ → List ℕ
 behind-type s n = cond (ltb (length s) n) [] (take (n - 3) (drop 3 s))
 
--- the strict setting's verdict on a kind: only those with an address have a protocol
-abbrev pub strict-verdict : Kind → List ℕ → Verdict
-strict-verdict configuration body = pass
-strict-verdict load-balancing body = pass
-strict-verdict (address family role) body = judge-protocol true family role body
-strict-verdict unknown body = pass
+-- ---- what a kind holds, judged in two halves
 
--- the highest type of a kind that holds something to judge: configuration, and under the strict setting an address
-abbrev pub last-judged : Settings → ℕ
-last-judged g = cond (g .strict) 0x26 0x01
+-- a protocol at a place, of a kind of which these are asked
+abbrev pub carried : Settings → Protocols → (protocol place : ℕ) → Verdict
+carried g asked protocol place = refuse wrong-protocol protocol place when g .strict && not (taken asked protocol) else pass
+
+-- with the kind's length, the protocol beside an address
+abbrev pub protocol-verdict : Settings → Kind → List ℕ → Verdict
+protocol-verdict g configuration body = pass
+protocol-verdict g load-balancing body = pass
+protocol-verdict g (address family role) body = judge-protocol (g .strict) family role body
+protocol-verdict g unknown body = pass
+
+-- and then a configuration option's string, as it is alone
+abbrev pub string-verdict : Kind → List ℕ → Verdict
+string-verdict configuration body = string-alone (drop 1 body)
+string-verdict load-balancing body = pass
+string-verdict (address family role) body = pass
+string-verdict unknown body = pass
+
+-- together they are what the reading judges, the string's first byte being the option's fifth; and the first half with the setting off is what
+-- lookup judges. proofs/ReadingLaws.antt proves it.
+pub record Halves (g : Settings) (k : Kind) (body : List ℕ) : Type 0 where
+  pub both : judge-content g k body ≡ (protocol-verdict g k body >> further 4 (string-verdict k body))
+  pub first : g .strict ≡ false → protocol-verdict g k body ≡ unscanned k body

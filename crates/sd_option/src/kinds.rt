@@ -2,9 +2,8 @@
 ghost use mathlib.Core.Path.{_≡_};
 ghost use Prim.Native.Nat.{_<_};
 ghost use lib.ListN.{getD};
-ghost use Rattle.sd_format.specs.Options.{width};
 ghost use Rattle.sd_format.specs.Kinds.{row-of, kind-of};
-ghost use Rattle.sd_option.specs.Kinds.{family-said, kind-said, encoded, rows, blank};
+ghost use Rattle.sd_option.specs.Kinds.{kind-said, taken, encoded, rows, blank};
 
 // The type codes.
 pub const CONFIGURATION: u8 = 0x01;
@@ -29,44 +28,60 @@ pub enum KindLength {
     OneOrMore,
 }
 
+// The transport protocols that the strict setting takes of a kind; those without an address have none to be asked for.
+pub enum Protocols {
+    Unasked,
+    TcpOrUdp,
+    UdpOnly,
+}
+
 // A row of the table.
 pub struct KindRow {
     pub code: u8,
     pub len: KindLength,
+    pub protocols: Protocols,
 }
 
 pub const KINDS: [KindRow; 8] = [
     KindRow {
         code: CONFIGURATION,
         len: KindLength::OneOrMore,
+        protocols: Protocols::Unasked,
     },
     KindRow {
         code: LOAD_BALANCING,
         len: KindLength::Exactly(5),
+        protocols: Protocols::Unasked,
     },
     KindRow {
         code: IPV4_ENDPOINT,
         len: KindLength::Exactly(9),
+        protocols: Protocols::TcpOrUdp,
     },
     KindRow {
         code: IPV4_MULTICAST,
         len: KindLength::Exactly(9),
+        protocols: Protocols::UdpOnly,
     },
     KindRow {
         code: IPV4_SD_ENDPOINT,
         len: KindLength::Exactly(9),
+        protocols: Protocols::TcpOrUdp,
     },
     KindRow {
         code: IPV6_ENDPOINT,
         len: KindLength::Exactly(21),
+        protocols: Protocols::TcpOrUdp,
     },
     KindRow {
         code: IPV6_MULTICAST,
         len: KindLength::Exactly(21),
+        protocols: Protocols::UdpOnly,
     },
     KindRow {
         code: IPV6_SD_ENDPOINT,
         len: KindLength::Exactly(21),
+        protocols: Protocols::TcpOrUdp,
     },
 ];
 
@@ -94,7 +109,23 @@ pub fn row_of(code: u8) -> KindRow
         _ => KindRow {
             code,
             len: KindLength::OneOrMore,
+            protocols: Protocols::Unasked,
         },
+    }
+}
+
+const TCP: u8 = 0x06;
+
+const UDP: u8 = 0x11;
+
+// The rule of the strict setting: whether a kind of which these are asked may carry this protocol.
+pub(crate) fn takes(asked: Protocols, protocol: u8) -> bool
+    ensures { λ r. ⌜ r ≡ taken asked protocol ⌝ }
+{
+    match asked {
+        Protocols::Unasked => true,
+        Protocols::TcpOrUdp => protocol == TCP || protocol == UDP,
+        Protocols::UdpOnly => protocol == UDP,
     }
 }
 
@@ -102,16 +133,6 @@ pub fn row_of(code: u8) -> KindRow
 pub enum Family {
     Ipv4,
     Ipv6,
-}
-
-// How many bytes an address has.
-pub fn width_of(family: Family) -> usize
-    ensures { λ r. ⌜ r ≡ width (family-said family) ⌝ }
-{
-    match family {
-        Family::Ipv4 => 4,
-        Family::Ipv6 => 16,
-    }
 }
 
 // What its address is for.

@@ -1,6 +1,5 @@
 // One option: its kind, and its reading from the front of a slice. Its fields: crate sd_field.
 pub mod kinds;
-mod protocols; // protocols.rt: the strict setting's rule
 pub mod reading;
 
 // The settings of a reading.
@@ -10,3 +9,9 @@ pub struct Settings {
     // An option with an address is refused unless it carries TCP or UDP, and for multicast UDP.
     pub strict: bool,
 }
+
+// No setting is on.
+pub const PLAIN: Settings = Settings {
+    discard_unknown_option: false,
+    strict: false,
+};

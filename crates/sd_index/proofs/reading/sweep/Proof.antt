@@ -7,16 +7,16 @@ use native.Mathlib.Omega.{arith}
 use borrow.Author.Needs.{needs}
 use lib.ListN.{length, drop}
 use Rattle.numbers.specs.Refusals.{moved}
-use Rattle.numbers.specs.Answers.{refused, further, given}
+use Rattle.numbers.specs.Answers.{refused, given}
 use Rattle.numbers.proofs.AnswerLaws.{moved-twice}
 use Rattle.sd_format.specs.Settings.{Settings}
-use Rattle.sd_format.specs.Kinds.{kind-of, judge-content, unscanned}
+use Rattle.sd_format.specs.Kinds.{kind-of, judge-content}
 use Rattle.sd_format.specs.Frames.{one-option}
 use Rattle.refusal.specs.declared.Refusal.{Refusal}
 use Rattle.refusal.specs.Said.{said, verdict-said, verdict-refusal, moved-capped}
 use Rattle.sd_option.specs.Settings.{settings-said}
-use Rattle.sd_option.specs.Reading.{head-of, option-said, option-refusal, behind-type}
-use Rattle.sd_option.proofs.ReadingLaws.{Found, found, not-found, refused-before, content-refused, content-passed}
+use Rattle.sd_option.specs.Reading.{head-of, option-said, option-refusal, behind-type, protocol-verdict, string-verdict}
+use Rattle.sd_option.proofs.ReadingLaws.{Found, found, not-found, refused-before, string-refused, string-passed}
 use Rattle.sd_index.proofs.Turns.{Turn, turn-starts, bad-stays, good-asks, turn-stops, turn-within, turn-goes, turn-refuses, turn-ends}
 use Rattle.sd_index.proofs.reading.sweep.Statement.{statement}
 use Rattle.sd_index.proofs.reading.sweep.Tie as tie
@@ -42,8 +42,8 @@ abbrev setting : tie.At-loop Inv-loop μ-loop → Settings
 setting c = settings-said (c .before .before .before .args .settings)
 
 told : (c : tie.After-read-option-unscanned Inv-loop μ-loop)
-    → option-said (c .read-option-unscanned .result) ≡ given head-of (one-option unscanned (rest (c .before .before .before .before)))
-told c = c .read-option-unscanned .ensures ∙ ap (λ (b : List ℕ). given head-of (one-option unscanned b)) (c .before .option-at .ensures)
+    → option-said (c .read-option-unscanned .result) ≡ given head-of (one-option (protocol-verdict (setting (c .before .before .before .before))) (rest (c .before .before .before .before)))
+told c = c .read-option-unscanned .ensures ∙ ap (λ (b : List ℕ). given head-of (one-option (protocol-verdict (setting (c .before .before .before .before))) b)) (c .before .option-at .ensures)
 
 returns : tie.Need-returns Inv-loop μ-loop
 returns c =
@@ -53,37 +53,37 @@ returns c =
     let at : ℕ = turn .before .before .loop .at .0 in
     let why = refused-here .before .enum-told .given in
     let r = said (why .0 .0) in
-    turn-stops (turn .before .before .loop .inv) (turn .if1 .taken) r r at (refused-before _ _ _ (not-found unscanned _ _ (told read) _ (why .1))) refl (omega arith)
+    turn-stops (turn .before .before .loop .inv) (turn .if1 .taken) r r at (refused-before _ _ _ (not-found (protocol-verdict _) _ _ (told read) _ (why .1))) refl (omega arith)
     (c .moved .result) (c .moved .ensures ∙ ap (λ (x : Refusal). moved-capped at (said x)) (refused-here .refusal .ensures ∙ ap option-refusal (why .1)))
 
--- but for what it holds
+-- but for its string
 here : (c : tie.After-known-told Inv-loop μ-loop)
-    → Found unscanned (rest (c .before .before .before .before .before .before .before)) (c .before .answer .given .0 .0)
-here c = found unscanned _ _ (told (c .before .before .before)) _ (c .before .answer .given .1)
+    → Found (protocol-verdict (setting (c .before .before .before .before .before .before .before))) (rest (c .before .before .before .before .before .before .before)) (c .before .answer .given .0 .0)
+here c = found (protocol-verdict _) _ _ (told (c .before .before .before)) _ (c .before .answer .given .1)
 
-content-told : (c : tie.After-judge-content Inv-loop μ-loop)
-    → further 4 (verdict-said (c .judge-content .result))
-    ≡ judge-content (setting (c .before .before .before .before .before .before .before .before)) (kind-of (c .before .before .answer .given .0 .0 .code)) (behind-type (rest (c .before .before .before .before .before .before .before .before)) (c .before .before .answer .given .0 .0 .size))
-content-told c =
+string-told : (c : tie.After-scan Inv-loop μ-loop)
+    → verdict-said (c .scan .result)
+    ≡ string-verdict (kind-of (c .before .before .answer .given .0 .0 .code)) (behind-type (rest (c .before .before .before .before .before .before .before .before)) (c .before .before .answer .given .0 .0 .size))
+string-told c =
     let head = c .before .before .answer .given .0 .0 in
-    c .judge-content .ensures ∙ ap (λ (b : List ℕ). judge-content (setting (c .before .before .before .before .before .before .before .before)) (kind-of (head .code)) (behind-type b (head .size))) (c .before .before .before .before .before .option-at .ensures)
+    c .scan .ensures ∙ ap (λ (b : List ℕ). string-verdict (kind-of (head .code)) (behind-type b (head .size))) (c .before .before .before .before .before .option-at .ensures)
 
 returns-2 : tie.Need-returns-2 Inv-loop μ-loop
 returns-2 c =
     let refused-here = c .before .before in
-    let judged = refused-here .before .before .before in
-    let turn = judged .before .before .before .before .before .before in
+    let scan = refused-here .before .before .before in
+    let turn = scan .before .before .before .before .before .before in
     let at : ℕ = turn .before .before .loop .at .0 in
     let why = refused-here .before .enum-told3 .given in
     let r = said (why .0 .0) in
-    turn-stops (turn .before .before .loop .inv) (turn .if1 .taken) (moved 4 r) r (at + 4) (content-refused _ _ _ (here (judged .before)) _ (content-told judged) _ (why .1))
+    turn-stops (turn .before .before .loop .inv) (turn .if1 .taken) (moved 4 r) r (at + 4) (string-refused _ _ _ (here (scan .before)) _ (string-told scan) _ (why .1))
     (sym (moved-twice at 4 r)) (omega arith)
     (c .moved2 .result) (c .moved2 .ensures ∙ ap (λ (x : Refusal). moved-capped (at + 4) (said x)) (refused-here .refusal2 .ensures ∙ ap verdict-refusal (why .1)))
 
--- with what it holds
+-- with its string
 whole : (c : tie.After-enum-told2 Inv-loop μ-loop)
     → Found (judge-content (setting (c .before .before .before .before .before .before .before .before .before .before))) (rest (c .before .before .before .before .before .before .before .before .before .before)) (c .before .before .before .before .answer .given .0 .0)
-whole c = let judged = c .before .before in content-passed _ _ _ (here (judged .before)) _ (content-told judged) (c .enum-told2 .given .1)
+whole c = let scan = c .before .before in string-passed _ _ _ (here (scan .before)) _ (string-told scan) (c .enum-told2 .given .1)
 
 add-t13-2 : tie.Need-add-t13-2 Inv-loop μ-loop
 add-t13-2 c =
