@@ -18,7 +18,7 @@ use Rattle.refusal.specs.declared.answers.Verdict.{Verdict}
 use Rattle.refusal.specs.declared.answers.Verdict.the-variants as verdict
 use Rattle.refusal.specs.declared.answers.Count.{Count}
 use Rattle.refusal.specs.declared.answers.Count.the-variants as count
-use Rattle.refusal.specs.Said.{verdict-said, count-said}
+use Rattle.refusal.specs.Said.{said, verdict-said, verdict-refusal, count-said}
 use Rattle.tp_machine.specs.Machine.{most, State, Out, begun, begin, step, opened, fed, clear, bad-state}
 use Rattle.tp_machine.specs.Taking.{Taken, complete, ready, finished, report, taking}
 use Rattle.tp_machine.specs.Meaning.{Complete}
@@ -67,9 +67,15 @@ module _ (ws : List ℕ) (limit : ℕ) where
         state = λ k. ap state-of words ∙ words-hold .stored-back ws blank (begin limit) h refl (omega arith);
       }
 
--- an acceptance, told as one
+-- an acceptance told as one, and a refusal
 pub passed : {v : Verdict} {a : Answer} → v ≡ verdict.Passed → a ≡ row 0 [] → a ≡ told no-values (verdict-said v)
 passed e told-so = told-so ∙ sym (ap (λ (v : Verdict). told no-values (verdict-said v)) e)
+
+pub stopped : {v : Verdict} {a : Answer} {q r : Refusal} → v ≡ verdict.Refused q → r ≡ verdict-refusal v → a ≡ refusal-row (said r) → a ≡ told no-values (verdict-said v)
+stopped e why told-so =
+    told-so
+    ∙ ap (λ (x : Refusal). refusal-row (said x)) (why ∙ ap verdict-refusal e)
+    ∙ sym (ap (λ (v : Verdict). told no-values (verdict-said v)) e)
 
 -- ---- one segment
 

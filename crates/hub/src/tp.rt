@@ -38,7 +38,7 @@ pub extern "C" fn viaductle_consume(words: &mut [u32], segment: &[u8], buffer: &
     let step = tp_stream::consume(stream_of(words), segment, buffer);
     let answer = step.answer;
     let Verdict::Passed = answer else {
-        return verdict_answer(answer);
+        return refused(answer.refusal());
     };
     let stream = step.stream;
     put(words, stream);
