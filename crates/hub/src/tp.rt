@@ -78,5 +78,5 @@ pub extern "C" fn viaductle_clear(words: &mut [u32]) -> Answer
         return refused(Refusal::MalformedState);
     }
     put(words, tp_stream::clear(stream_of(words)));
-    accepted()
+    verdict_answer(Verdict::Passed)
 }

@@ -2,8 +2,7 @@
 use mathlib.Core.Path.{_≡_, refl, sym, ap, _∙_}
 use mathlib.Core.Bool.{Bool, true, false, _||_, or-true, true≢false}
 use mathlib.Core.Logic.{_↔_, inl, inr, ⊎-elim}
-use Prim.Native.Nat.{ℕ, _≤_}
-use native.Mathlib.Omega.{arith}
+use Prim.Native.Nat.{ℕ}
 use lib.Dec.{eqb}
 use borrow.Author.Tests.{eq-eqb, ne-eqb, eqb-true, eqb-false}
 use Rattle.numbers.proofs.TestLaws.{or-cases}
@@ -74,15 +73,6 @@ type-cases type conf load addr other =
     not-any n4 n14 n24 n6 n16 n26 ipv6 endpoint = n6
     not-any n4 n14 n24 n6 n16 n26 ipv6 multicast = n16
     not-any n4 n14 n24 n6 n16 n26 ipv6 sd-endpoint = n26
-
--- no kind with an address has a higher type
-pub high-end : (family : Family) (role : Role) → lay-type family role ≤ 0x26
-high-end ipv4 endpoint = omega arith
-high-end ipv4 multicast = omega arith
-high-end ipv4 sd-endpoint = omega arith
-high-end ipv6 endpoint = omega arith
-high-end ipv6 multicast = omega arith
-high-end ipv6 sd-endpoint = omega arith
 
 -- ---- a role may carry a protocol exactly where the layout says that it fits
 

@@ -1,12 +1,11 @@
 -- The strict setting's cases hold of the definitions, by computation. Assumes nothing.
 use mathlib.Core.Path.{refl}
 use Rattle.numbers.specs.Answers.{_>>=_, _>>_, refuse_when_else_, further, given}
-use Rattle.numbers.specs.Bytes.{be16, be32, at16, at24, at32}
-use Rattle.sd_format.specs.Sequences.{all-from, each-from, next-at}
+use Rattle.numbers.specs.Bytes.{be16, be32, at16, at32}
+use Rattle.sd_format.specs.Sequences.{all-from, next-at}
 use Rattle.sd_format.specs.Kinds.{kinds, row-in, row-of, judge-length, may-carry, judge-protocol, judge-content, judge-kind}
-use Rattle.sd_format.specs.Frames.{frame, one-option, placed-option, permitted, permit, all-options, read-options, read-index}
-use Rattle.sd_format.specs.Entries.{head, group, by-type, read-entry, inside, judge-run, judge-runs, placed-entry, read-entries}
-use Rattle.sd_format.specs.Payload.{sizes, entries-length, options-length, entries-part, options-part, read-payload, header, read-message}
+use Rattle.sd_format.specs.Frames.{frame, one-option, placed-option, all-options, read-options, read-index}
+use Rattle.sd_format.specs.Payload.{sizes, entries-length, options-length, options-part, read-payload, header, read-message}
 use Rattle.sd_format.specs.Protocols.{Protocols}
 
 pub protocols : Protocols

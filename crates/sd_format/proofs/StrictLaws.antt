@@ -1,13 +1,13 @@
 -- The strict setting: off, every reading is as it was before there was one; on, it refuses more and changes nothing else. Assumes nothing.
 use mathlib.Core.Path.{_≡_, refl, sym, ap, _∙_}
-use mathlib.Core.Bool.{Bool, true, false, true≢false, false≢true}
+use mathlib.Core.Bool.{Bool, true, false, false≢true}
 use mathlib.Core.Logic.{_↔_}
 use mathlib.Core.List.{List, [], _∷_, map}
 use Prim.Native.Nat.{ℕ}
 use lib.ListN.{length, take, drop}
 use lib.Dec.{ltb}
 use Rattle.numbers.specs.Refusals.{index-too-large}
-use Rattle.numbers.specs.Answers.{Answer, accepted, Verdict, pass, _>>=_, _>>_, refuse_when_else_, given, All}
+use Rattle.numbers.specs.Answers.{Answer, accepted, pass, _>>=_, _>>_, refuse_when_else_, given, All}
 use Rattle.numbers.specs.Bytes.{Bytes}
 use Rattle.numbers.proofs.AnswerLaws.{given-accepted}
 use Rattle.sd_format.specs.Settings.{Settings}
@@ -18,11 +18,10 @@ use Rattle.sd_format.specs.Frames.{Frame, size, one-option, permit, all-
 use Rattle.sd_format.specs.Entries.{read-entries}
 use Rattle.sd_format.specs.Layout.{OptionFits, Payload, Fits, wire}
 use Rattle.sd_format.specs.Payload.{sizes, entries-length, options-length, entries-part, options-part, Reading, read-payload, frames-of, shown, handed-out, header, read-message}
-use Rattle.sd_format.specs.Demand3.{LaidOut, table-left, undecided, IndexLaidOut}
+use Rattle.sd_format.specs.Demand3.{undecided}
 use Rattle.sd_format.specs.Before.{string-judged, all-before, options-before, payload-before, AsBefore, without-strict, Carries, OnlyRefusesMore}
-use Rattle.sd_format.proofs.OptionLaws.{all-judged}
+use Rattle.sd_format.proofs.OptionLaws.{all-judged, options-read}
 use Rattle.sd_format.proofs.PayloadLaws.{read-says, bytes-options}
-use Rattle.sd_format.proofs.OptionLaws.{options-read}
 use Rattle.sd_format.proofs.Demand3.{demand3}
 use Rattle.sd_format.proofs.CallLaws.{index-exact}
 

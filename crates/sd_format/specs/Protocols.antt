@@ -44,7 +44,7 @@ pub record Protocols : Type 0 where
   pub ipv6-endpoint-udp : Taken (ipv6-carrying 0x06 0x11)
   pub ipv6-multicast-udp : Taken (ipv6-carrying 0x16 0x11)
   pub ipv6-sd-endpoint-udp : Taken (ipv6-carrying 0x26 0x11)
-  -- no other kind has one: a load balancing option, and an unknown one that may stand, of the same bytes
+  -- no other kind has one: a load balancing option, and an unknown one of the same bytes, read alone
   pub load-balancing : Taken (0x00 ∷ 0x05 ∷ 0x02 ∷ 0x00 ∷ 0x99 ∷ 0x99 ∷ 0x99 ∷ 0x99 ∷ [])
   pub unknown : Taken (ipv4-carrying 0x77 0x99)
   -- among all options and in the index the protocol's byte is counted from the first of them, by the cursor from the option's own

@@ -1,22 +1,23 @@
 -- The kinds: a type that is none of the table's codes is unknown; what is said of kinds keeps them apart; lengths and protocols out of the code's form. Assumes nothing.
 use mathlib.Core.Path.{_≡_, refl, sym, ap, _∙_, subst}
-use mathlib.Core.Logic.{_≢_}
-use mathlib.Core.Bool.{not}
-use mathlib.Core.List.{List}
+use mathlib.Core.Logic.{_≢_, inl, inr, ⊎-elim}
+use mathlib.Core.Bool.{not, _||_}
+use mathlib.Core.List.{List, [], _∷_}
 use Prim.Native.Nat.{ℕ}
-use lib.Dec.{T}
+use lib.Dec.{T, eqb}
 use types.Run.{OneOf, miss}
 use mir.Val.{hasKey}
 use denote.Enum.Declared
 use borrow.Author.Tests.{ne-eqb}
 use Rattle.sd_format.specs.Options.{Family, ipv4, ipv6, Role, endpoint, multicast, sd-endpoint}
 use Rattle.sd_format.specs.Kinds.{Kind, configuration, load-balancing, address, unknown, Length, exactly, one-or-more, row, row-of, row-in, kinds, may-carry}
+use Rattle.sd_format.specs.Layout.{lay-type}
 use Rattle.sd_option.specs.declared.kinds.Family.the-variants.{Ipv4, Ipv6}
 use Rattle.sd_option.specs.declared.kinds.Role.the-variants.{Endpoint, Multicast, SdEndpoint}
 use Rattle.sd_option.specs.declared.kinds.OptionKind.{OptionKind}
 use Rattle.sd_option.specs.declared.kinds.OptionKind.the-variants as kind
 use Rattle.sd_option.proofs.kinds.OptionKind.{the-type}
-use Rattle.sd_option.specs.Kinds.{kind-said, length-encoded, protocols-encoded, length-said, taken}
+use Rattle.sd_option.specs.Kinds.{kind-said, length-encoded, length-said, taken}
 
 pub unlisted : (t : ℕ) → t ≢ 0x01 → t ≢ 0x02 → t ≢ 0x04 → t ≢ 0x14 → t ≢ 0x24 → t ≢ 0x06 → t ≢ 0x16 → t ≢ 0x26 → row-of t ≡ row t unknown one-or-more
 unfolding row-of row-in kinds
@@ -65,8 +66,18 @@ pub length-back : (l : Length) → length-said (length-encoded l) ≡ l
 length-back (exactly n) = refl
 length-back one-or-more = refl
 
-pub taken-carried : (family : Family) (role : Role) (p : ℕ) → taken (protocols-encoded (address family role)) p ≡ may-carry role p
+pub taken-carried : (family : Family) (role : Role) (p : ℕ) → taken (lay-type family role) p ≡ may-carry role p
 unfolding may-carry
-taken-carried family endpoint p = refl
-taken-carried family multicast p = refl
-taken-carried family sd-endpoint p = refl
+taken-carried ipv4 endpoint p = refl
+taken-carried ipv4 multicast p = refl
+taken-carried ipv4 sd-endpoint p = refl
+taken-carried ipv6 endpoint p = refl
+taken-carried ipv6 multicast p = refl
+taken-carried ipv6 sd-endpoint p = refl
+
+-- the code tells multicast's types from the others
+pub multicast-type : (code p : ℕ) → OneOf (0x14 ∷ 0x16 ∷ []) code → eqb p 0x11 ≡ taken code p
+multicast-type code p is = ⊎-elim (λ e. rw e refl) (λ e. rw e refl) is
+
+pub other-type : (code p : ℕ) → (OneOf (0x14 ∷ 0x16 ∷ []) code → ⊥) → taken code p ≡ (eqb p 0x06 || eqb p 0x11)
+other-type code p other = rw (ne-eqb code 0x14 (λ e. other (inl e)), ne-eqb code 0x16 (λ e. other (inr e))) refl

@@ -2,7 +2,7 @@
 -- after all else. Assumes nothing.
 use mathlib.Core.Path.{_≡_, refl, sym, ap, _∙_, subst}
 use mathlib.Core.Logic.{_≢_}
-use mathlib.Core.Bool.{Bool, true, false, and-false}
+use mathlib.Core.Bool.{Bool, true, false}
 use mathlib.Core.List.{List, [], _∷_}
 use Prim.Native.Nat.{ℕ, suc, _+_, _*_, _-_, _≤_, _<_}
 use native.Mathlib.Omega.{arith}
@@ -16,7 +16,7 @@ use Rattle.numbers.specs.Bytes.{at16}
 use Rattle.numbers.proofs.AnswerLaws.{given-accepted, given-refused, then-accepted, when-hit, when-pass, refuse-pass}
 use Rattle.sd_format.specs.Settings.{Settings}
 use Rattle.sd_format.specs.Options.{Family, ipv4, ipv6, Role, has, width, protocol}
-use Rattle.sd_format.specs.Kinds.{Kind, configuration, load-balancing, address, unknown, exactly, Row, row, row-of, kind-of, judge-length, judge-protocol, judge-content, unscanned, judge-kind}
+use Rattle.sd_format.specs.Kinds.{Kind, configuration, load-balancing, address, unknown, exactly, Row, row, row-of, kind-of, judge-length, may-carry, judge-protocol, judge-content, unscanned, judge-kind}
 use Rattle.sd_format.specs.Layout.{lay-type, lay-length}
 use Rattle.sd_format.specs.Frames.{Frame, frame, one-option, read-option}
 use Rattle.sd_format.proofs.KindLaws.{row-configuration, row-load-balancing, row-address, row-unknown, type-cases}
@@ -27,12 +27,10 @@ use Rattle.refusal.specs.declared.answers.Verdict as answers
 use Rattle.refusal.specs.declared.answers.Verdict.the-variants as verdict
 use Rattle.refusal.specs.Said.{said, verdict-said, most, moved-capped}
 use Rattle.refusal.proofs.PlaceLaws.{uncapped}
-use Rattle.sd_option.specs.declared.kinds.Protocols.{Protocols}
-use Rattle.sd_option.specs.declared.kinds.Protocols.the-variants.{Unasked}
 use Rattle.sd_option.specs.declared.reading.OptionHead.{OptionHead}
 use Rattle.sd_option.specs.declared.reading.OptionAnswer.{OptionAnswer}
 use Rattle.sd_option.specs.declared.reading.OptionAnswer.the-variants as option
-use Rattle.sd_option.specs.Kinds.{protocols-encoded, taken}
+use Rattle.sd_option.specs.Kinds.{has-protocol, taken}
 use Rattle.sd_option.specs.Reading.{head-of, option-said, behind-type, body-length, carried, protocol-verdict, string-verdict, Halves}
 use Rattle.sd_option.proofs.KindLaws.{taken-carried}
 
@@ -82,44 +80,50 @@ framed s n e =
 
 -- ---- what the code says of a protocol
 
-module _ (g : Settings) (asked : Protocols) (p place : ℕ) where
-  pub carried-off : g .strict ≡ false → pass ≡ carried g asked p place
-  carried-off off = sym (when-pass _ _ _ (rw off))
+module _ (g : Settings) (code p place : ℕ) where
+  pub carried-none : (present : Bool) → present ≡ false → pass ≡ carried g present code p place
+  carried-none present none = sym (when-pass _ _ _ (rw none))
 
-  pub carried-taken : taken asked p ≡ true → pass ≡ carried g asked p place
-  carried-taken is = sym (when-pass _ _ _ (rw is (and-false (g .strict))))
+  module _ (present : Bool) (there : present ≡ true) where
+    pub carried-off : g .strict ≡ false → pass ≡ carried g present code p place
+    carried-off off = sym (when-pass _ _ _ (rw (there, off)))
 
-  pub carried-not : g .strict ≡ true → taken asked p ≡ false → refused (wrong-protocol p place) ≡ carried g asked p place
-  carried-not on other = sym (when-hit _ _ _ (rw (on, other)))
+    module _ (on : g .strict ≡ true) where
+      pub carried-taken : taken code p ≡ true → pass ≡ carried g present code p place
+      carried-taken is = sym (when-pass _ _ _ (rw (there, on, is)))
+
+      pub carried-not : taken code p ≡ false → refused (wrong-protocol p place) ≡ carried g present code p place
+      carried-not other = sym (when-hit _ _ _ (rw (there, on, other)))
 
 -- the protocol of an option whose length is its kind's stands two bytes before its end, which is where its length counts to from the option's start
-module _ (g : Settings) (s : List ℕ) (n : ℕ) where
+module _ (g : Settings) (s : List ℕ) (n type : ℕ) where
   abbrev Told : Row → Type 0
-  Told w = judge-length (w .len) n ≡ pass → carried g (protocols-encoded (w .kind)) (getD s n 0) n ≡ protocol-verdict g (w .kind) (take n (drop 3 s))
+  Told w = judge-length (w .len) n ≡ pass → carried g (has-protocol (w .kind)) type (getD s n 0) n ≡ protocol-verdict g (w .kind) (take n (drop 3 s))
 
-  unasked : pass ≡ carried g Unasked (getD s n 0) n
-  unasked = carried-taken g Unasked (getD s n 0) n refl
+  no-protocol : carried g false type (getD s n 0) n ≡ pass
+  no-protocol = sym (carried-none g type (getD s n 0) n false refl)
 
-  beside : (family : Family) (role : Role) (code : ℕ) → Told (row code (address family role) (exactly (lay-length family)))
+  beside : (family : Family) (role : Role) → type ≡ lay-type family role → Told (row (lay-type family role) (address family role) (exactly (lay-length family)))
   unfolding judge-length judge-protocol
-  beside family role code fits =
+  beside family role t fits =
       let long : n ≡ lay-length family = eqb-true n (lay-length family) (refuse-pass _ (eqb n (lay-length family)) .0 fits) in
       let place : n ≡ 5 + width family = long ∙ length-of family in
       let there : protocol family (take n (drop 3 s)) ≡ getD s n 0 =
       getD-take n (drop 3 s) (2 + width family) 0 (omega arith) ∙ getD-drop 3 s (2 + width family) 0 ∙ ap (λ (i : ℕ). getD s i 0) (sym (place ∙ omega arith)) in
-      rw (there, ← place, taken-carried family role (getD s n 0)) refl
+      let rule : taken type (getD s n 0) ≡ may-carry role (getD s n 0) = ap (λ (c : ℕ). taken c (getD s n 0)) t ∙ taken-carried family role (getD s n 0) in
+      rw (there, ← place, rule) refl
     where
       length-of : (f : Family) → lay-length f ≡ 5 + width f
       length-of ipv4 = refl
       length-of ipv6 = refl
 
-  pub protocol-there : (type : ℕ) → Told (row-of type)
-  protocol-there type =
+  pub protocol-there : Told (row-of type)
+  protocol-there =
       type-cases type
-      (λ t. by-row t row-configuration (λ fits. sym unasked))
-      (λ t. by-row t row-load-balancing (λ fits. sym unasked))
-      (λ family role t. by-row t (row-address family role) (beside family role (lay-type family role)))
-      (λ u. subst Told (sym (row-unknown type u)) (λ fits. sym unasked))
+      (λ t. by-row t row-configuration (λ fits. no-protocol))
+      (λ t. by-row t row-load-balancing (λ fits. no-protocol))
+      (λ family role t. by-row t (row-address family role) (beside family role t))
+      (λ u. subst Told (sym (row-unknown type u)) (λ fits. no-protocol))
     where
       by-row : {code : ℕ} {w : Row} → type ≡ code → row-of code ≡ w → Told w → Told (row-of type)
       by-row t is told = subst Told (sym (ap row-of t ∙ is)) told

@@ -1,6 +1,6 @@
 -- What the code's kinds say, and the rules' table in the code's form. Assumes nothing: these are definitions.
 use Prim.Native.Nat.{ℕ}
-use mathlib.Core.Bool.{Bool, true, _||_}
+use mathlib.Core.Bool.{Bool, true, false, _||_, cond}
 use mathlib.Core.List.{List, map}
 use lib.Dec.{eqb}
 use Rattle.sd_format.specs.Options as format
@@ -13,8 +13,6 @@ use Rattle.sd_option.specs.declared.kinds.OptionKind.{OptionKind}
 use Rattle.sd_option.specs.declared.kinds.OptionKind.the-variants as kind
 use Rattle.sd_option.specs.declared.kinds.KindLength.{KindLength}
 use Rattle.sd_option.specs.declared.kinds.KindLength.the-variants as len
-use Rattle.sd_option.specs.declared.kinds.Protocols.{Protocols}
-use Rattle.sd_option.specs.declared.kinds.Protocols.the-variants as protocols
 use Rattle.sd_option.specs.declared.kinds.KindRow.{KindRow}
 
 abbrev pub family-said : Family → format.Family
@@ -38,24 +36,22 @@ abbrev pub length-encoded : Length → KindLength
 length-encoded (exactly n) = len.Exactly n
 length-encoded one-or-more = len.OneOrMore
 
--- the protocols that are asked for, by the role of an address
-abbrev pub protocols-encoded : Kind → Protocols
-protocols-encoded configuration = protocols.Unasked
-protocols-encoded load-balancing = protocols.Unasked
-protocols-encoded (address f format.endpoint) = protocols.TcpOrUdp
-protocols-encoded (address f format.multicast) = protocols.UdpOnly
-protocols-encoded (address f format.sd-endpoint) = protocols.TcpOrUdp
-protocols-encoded unknown = protocols.Unasked
+-- whether a protocol stands beside an address
+abbrev pub has-protocol : Kind → Bool
+has-protocol configuration = false
+has-protocol load-balancing = false
+has-protocol (address f r) = true
+has-protocol unknown = false
 
 abbrev pub encoded : Row → KindRow
-encoded w = record { code = w .code; len = length-encoded (w .len); protocols = protocols-encoded (w .kind) }
+encoded w = record { code = w .code; len = length-encoded (w .len); «has_protocol» = has-protocol (w .kind) }
 
 abbrev pub rows : List KindRow
 rows = map encoded kinds
 
 -- what a place past its end would hold
 abbrev pub blank : KindRow
-blank = record { code = 0; len = len.Exactly 0; protocols = protocols.Unasked }
+blank = record { code = 0; len = len.Exactly 0; «has_protocol» = false }
 
 -- ---- and out of it
 
@@ -63,8 +59,6 @@ abbrev pub length-said : KindLength → Length
 length-said (len.Exactly n) = exactly n
 length-said len.OneOrMore = one-or-more
 
--- whether it is one of the protocols that are asked for
-abbrev pub taken : Protocols → (protocol : ℕ) → Bool
-taken protocols.Unasked p = true
-taken protocols.TcpOrUdp p = eqb p 0x06 || eqb p 0x11
-taken protocols.UdpOnly p = eqb p 0x11
+-- whether a protocol may stand beside the address of an option of this type: multicast's types have UDP alone
+abbrev pub taken : (code protocol : ℕ) → Bool
+taken code p = cond (eqb code 0x14 || eqb code 0x16) (eqb p 0x11) (eqb p 0x06 || eqb p 0x11)

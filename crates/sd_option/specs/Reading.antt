@@ -1,7 +1,7 @@
 -- What the answers of the reading of one option say, in the words of the definitions. Assumes nothing: these are definitions.
 use Prim.Native.Nat.{ℕ, _-_}
 use mathlib.Core.Path.{_≡_}
-use mathlib.Core.Bool.{false, not, _&&_, cond}
+use mathlib.Core.Bool.{Bool, false, not, _&&_, cond}
 use mathlib.Core.List.{List, []}
 use lib.ListN.{length, take, drop}
 use lib.Dec.{ltb}
@@ -14,7 +14,6 @@ use Rattle.sd_format.specs.Fields.{discardable}
 use Rattle.refusal.specs.Said.{said}
 use Rattle.refusal.specs.declared.Refusal.{Refusal}
 use Rattle.refusal.specs.declared.Refusal.the-variants.{NothingThere}
-use Rattle.sd_option.specs.declared.kinds.Protocols.{Protocols}
 use Rattle.sd_option.specs.declared.reading.OptionHead.{OptionHead}
 use Rattle.sd_option.specs.declared.reading.OptionAnswer.{OptionAnswer}
 use Rattle.sd_option.specs.declared.reading.OptionAnswer.the-variants as option
@@ -46,9 +45,9 @@ behind-type s n = cond (ltb (length s) n) [] (take (n - 3) (drop 3 s))
 
 -- ---- what a kind holds, judged in two halves
 
--- a protocol at a place, of a kind of which these are asked
-abbrev pub carried : Settings → Protocols → (protocol place : ℕ) → Verdict
-carried g asked protocol place = refuse wrong-protocol protocol place when g .strict && not (taken asked protocol) else pass
+-- the protocol at a place, of an option of this type, where it has one
+abbrev pub carried : Settings → (present : Bool) → (code protocol place : ℕ) → Verdict
+carried g present code protocol place = refuse wrong-protocol protocol place when present && (g .strict && not (taken code protocol)) else pass
 
 -- with the kind's length, the protocol beside an address
 abbrev pub protocol-verdict : Settings → Kind → List ℕ → Verdict

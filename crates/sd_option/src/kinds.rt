@@ -28,60 +28,53 @@ pub enum KindLength {
     OneOrMore,
 }
 
-// The transport protocols that the strict setting takes of a kind; those without an address have none to be asked for.
-pub enum Protocols {
-    Unasked,
-    TcpOrUdp,
-    UdpOnly,
-}
-
 // A row of the table.
 pub struct KindRow {
     pub code: u8,
     pub len: KindLength,
-    pub protocols: Protocols,
+    pub has_protocol: bool, // beside an address
 }
 
 pub const KINDS: [KindRow; 8] = [
     KindRow {
         code: CONFIGURATION,
         len: KindLength::OneOrMore,
-        protocols: Protocols::Unasked,
+        has_protocol: false,
     },
     KindRow {
         code: LOAD_BALANCING,
         len: KindLength::Exactly(5),
-        protocols: Protocols::Unasked,
+        has_protocol: false,
     },
     KindRow {
         code: IPV4_ENDPOINT,
         len: KindLength::Exactly(9),
-        protocols: Protocols::TcpOrUdp,
+        has_protocol: true,
     },
     KindRow {
         code: IPV4_MULTICAST,
         len: KindLength::Exactly(9),
-        protocols: Protocols::UdpOnly,
+        has_protocol: true,
     },
     KindRow {
         code: IPV4_SD_ENDPOINT,
         len: KindLength::Exactly(9),
-        protocols: Protocols::TcpOrUdp,
+        has_protocol: true,
     },
     KindRow {
         code: IPV6_ENDPOINT,
         len: KindLength::Exactly(21),
-        protocols: Protocols::TcpOrUdp,
+        has_protocol: true,
     },
     KindRow {
         code: IPV6_MULTICAST,
         len: KindLength::Exactly(21),
-        protocols: Protocols::UdpOnly,
+        has_protocol: true,
     },
     KindRow {
         code: IPV6_SD_ENDPOINT,
         len: KindLength::Exactly(21),
-        protocols: Protocols::TcpOrUdp,
+        has_protocol: true,
     },
 ];
 
@@ -109,7 +102,7 @@ pub fn row_of(code: u8) -> KindRow
         _ => KindRow {
             code,
             len: KindLength::OneOrMore,
-            protocols: Protocols::Unasked,
+            has_protocol: false,
         },
     }
 }
@@ -118,14 +111,13 @@ const TCP: u8 = 0x06;
 
 const UDP: u8 = 0x11;
 
-// The rule of the strict setting: whether a kind of which these are asked may carry this protocol.
-pub(crate) fn takes(asked: Protocols, protocol: u8) -> bool
-    ensures { λ r. ⌜ r ≡ taken asked protocol ⌝ }
+// The rule of the strict setting: whether an option of this type, which has a protocol, may carry this one.
+pub(crate) fn takes(code: u8, protocol: u8) -> bool
+    ensures { λ r. ⌜ r ≡ taken code protocol ⌝ }
 {
-    match asked {
-        Protocols::Unasked => true,
-        Protocols::TcpOrUdp => protocol == TCP || protocol == UDP,
-        Protocols::UdpOnly => protocol == UDP,
+    match code {
+        IPV4_MULTICAST | IPV6_MULTICAST => protocol == UDP,
+        _ => protocol == TCP || protocol == UDP,
     }
 }
 

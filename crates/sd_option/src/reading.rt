@@ -2,7 +2,6 @@
 use crate::Settings;
 use crate::kinds::KindLength;
 use crate::kinds::OptionKind;
-use crate::kinds::Protocols;
 use crate::kinds::kind_of;
 use crate::kinds::row_of;
 use crate::kinds::takes;
@@ -105,20 +104,26 @@ fn judged_length(asked: KindLength, had: usize) -> Verdict
     Verdict::Passed
 }
 
-// Whether the protocol, which stands at this place, is one that a kind may carry, if the setting asks.
-fn judged_protocol(settings: Settings, asked: Protocols, protocol: u8, place: usize) -> Verdict
-    ensures { λ r. ⌜ verdict-said r ≡ carried (settings-said settings) asked protocol place ⌝ }
+// Whether an option of this type may carry the protocol, which stands at this place, if it has one and the setting asks.
+fn judged_protocol(
+    settings: Settings,
+    present: bool,
+    code: u8,
+    protocol: u8,
+    place: usize,
+) -> Verdict
+    ensures { λ r. ⌜ verdict-said r ≡ carried (settings-said settings) present code protocol place ⌝ }
 {
-    let Protocols::Unasked = asked else {
-        if settings.strict {
-            if takes(asked, protocol) {
-                return Verdict::Passed;
-            }
-            return Verdict::Refused(Refusal::WrongProtocol { protocol, place });
-        }
+    if !present {
         return Verdict::Passed;
-    };
-    Verdict::Passed
+    }
+    if !settings.strict {
+        return Verdict::Passed;
+    }
+    if takes(code, protocol) {
+        return Verdict::Passed;
+    }
+    Verdict::Refused(Refusal::WrongProtocol { protocol, place })
 }
 
 // Whether the byte has the discardable bit.
@@ -144,8 +149,8 @@ pub fn read_option_unscanned(settings: Settings, s: &[u8]) -> OptionAnswer
     let Verdict::Passed = judged else {
         return OptionAnswer::Refused(judged.refusal());
     };
-    let protocols = row.protocols;
-    let carried = judged_protocol(settings, protocols, s[length], length); // behind a protocol stand two bytes
+    let has_protocol = row.has_protocol;
+    let carried = judged_protocol(settings, has_protocol, code, s[length], length); // two bytes stand behind a protocol
     let Verdict::Passed = carried else {
         return OptionAnswer::Refused(carried.refusal());
     };

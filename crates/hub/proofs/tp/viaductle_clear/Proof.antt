@@ -14,7 +14,7 @@ returns-2 c =
     let at-clear = at-put .before in
     let at-stream = at-clear .before in
     let at-fit = at-stream .before .before .before in
-    clears _ _ _ _ _ (sym (at-fit .before .unfit .ensures) ∙ at-fit .if1 .left) (at-stream .stream-of .ensures) (at-clear .clear .ensures) (at-put .put .ensures) (c .accepted .ensures)
+    clears _ _ _ _ _ (sym (at-fit .before .unfit .ensures) ∙ at-fit .if1 .left) (at-stream .stream-of .ensures) (at-clear .clear .ensures) (at-put .put .ensures) (c .verdict-answer .ensures)
 
 pub viaductle-clear-spec : {M : Type 1} → statement M
 viaductle-clear-spec =

@@ -10,7 +10,6 @@ use Rattle.sd_format.specs.Kinds.{Length, row-of, kind-of, judge-length}
 use Rattle.refusal.specs.declared.Refusal.{Refusal}
 use Rattle.refusal.specs.Said.{said, count-said, count-refusal, verdict-said, verdict-refusal}
 use Rattle.sd_option.specs.declared.kinds.KindRow.{KindRow}
-use Rattle.sd_option.specs.declared.kinds.Protocols.{Protocols}
 use Rattle.sd_option.specs.Kinds.{length-said}
 use Rattle.sd_option.specs.Settings.{settings-said}
 use Rattle.sd_option.specs.Reading.{head-of, body-length, carried, protocol-verdict}
@@ -74,7 +73,7 @@ carries c =
     let args = f .before .before .before .before .args in
     let n = f .framed .given .0 .0 in
     c .judged-protocol .ensures
-    ∙ ap (λ (p : Protocols). carried (settings-said (args .settings)) p (getD (args .s .now) n 0) n) (ap (λ (w : KindRow). w .protocols) (r .row-of .ensures))
+    ∙ ap (λ (w : KindRow). carried (settings-said (args .settings)) (w .«has_protocol») (getD (args .s .now) 2 0) (getD (args .s .now) n 0) n) (r .row-of .ensures)
     ∙ protocol-there (settings-said (args .settings)) (args .s .now) n (getD (args .s .now) 2 0) (fits e)
 
 returns-3 : tie.Need-returns-3
