@@ -17,7 +17,7 @@ const BEFORE: usize = 16;
 
 const BEHIND: usize = 15;
 
-// A place among the options; refusals 7 to 10 tell one.
+// A place among the options; refusals 7 to 10 and 23 tell one.
 enum Place {
     At(usize),
     Untold,
@@ -34,6 +34,7 @@ fn place_in(refusal: Refusal) -> Place {
         Refusal::OptionLengthZero { place } => Place::At(place),
         Refusal::ConfigurationString { error: _, place } => Place::At(place),
         Refusal::UnknownOption { code: _, place } => Place::At(place),
+        Refusal::WrongProtocol { protocol: _, place } => Place::At(place),
         _ => Place::Untold,
     }
 }

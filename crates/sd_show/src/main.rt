@@ -1,5 +1,6 @@
-// sd_show [--message] [--discard]: shows the service discovery payload that comes on standard input, as raw bytes, or with --message a whole
-// message; with --discard by the discard setting. One line begins `accepted` or `refused, NUMBER:`. bin/show takes files, hex and many at once.
+// sd_show [--message] [--discard] [--strict]: shows the service discovery payload that comes on standard input, as raw bytes, or with --message a
+// whole message; with --discard by the discard setting, with --strict by the strict one. One line begins `accepted` or `refused, NUMBER:`. bin/show
+// takes files, hex and many at once.
 use print::text;
 use sd_option::Settings;
 
@@ -11,30 +12,22 @@ mod payload; // payload.rt: a whole payload or message
 struct Asked {
     message: bool,
     discard: bool,
+    strict: bool,
     unknown: bool,
 }
 
 // What is asked with a word more.
-fn with_word(asked: Asked, word: &[u8]) -> Asked {
+fn with_word(mut asked: Asked, word: &[u8]) -> Asked {
     if check::same(word, b"--message") {
-        return Asked {
-            message: true,
-            discard: asked.discard,
-            unknown: asked.unknown,
-        };
+        asked.message = true;
+    } else if check::same(word, b"--discard") {
+        asked.discard = true;
+    } else if check::same(word, b"--strict") {
+        asked.strict = true;
+    } else {
+        asked.unknown = true;
     }
-    if check::same(word, b"--discard") {
-        return Asked {
-            message: asked.message,
-            discard: true,
-            unknown: asked.unknown,
-        };
-    }
-    Asked {
-        message: asked.message,
-        discard: asked.discard,
-        unknown: true,
-    }
+    asked
 }
 
 // What is asked with the word at a place more.
@@ -49,6 +42,7 @@ fn by_arguments() -> Asked {
     let mut asked = Asked {
         message: false,
         discard: false,
+        strict: false,
         unknown: false,
     };
     let count = os::arg_count();
@@ -63,6 +57,7 @@ fn by_arguments() -> Asked {
 fn show(asked: Asked, bytes: &[u8]) {
     let settings = Settings {
         discard_unknown_option: asked.discard,
+        strict: asked.strict,
     };
     if asked.message {
         payload::show_message(settings, bytes);
@@ -85,7 +80,7 @@ fn show_input(asked: Asked) {
 fn main() {
     let asked = by_arguments();
     if asked.unknown {
-        text(b"not shown: the words are --message and --discard\n");
+        text(b"not shown: the words are --message, --discard and --strict\n");
         return;
     }
     show_input(asked);

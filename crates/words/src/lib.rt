@@ -95,7 +95,7 @@ fn size_words(refusal: Refusal, values: [u64; PLACES]) {
     }
 }
 
-// Its options and entries, and an index: 7 to 13.
+// Its options and entries, and an index: 7 to 13, and 23.
 fn part_words(refusal: Refusal, values: [u64; PLACES]) {
     match refusal {
         Refusal::OptionLength {
@@ -117,6 +117,13 @@ fn part_words(refusal: Refusal, values: [u64; PLACES]) {
         }
         Refusal::UnknownOption { code: _, place: _ } => told(
             b"option of unknown type %02 may not be discarded, by byte %1d of the options; the discard setting would pass it",
+            values,
+        ),
+        Refusal::WrongProtocol {
+            protocol: _,
+            place: _,
+        } => told(
+            b"the transport protocol is %02, by byte %1d of the options; the strict setting takes 0x06 (TCP) and 0x11 (UDP), for multicast 0x11 alone",
             values,
         ),
         Refusal::UnknownEntry(_) => told(
@@ -255,6 +262,10 @@ fn words(refusal: Refusal, values: [u64; PLACES]) {
         | Refusal::OptionLengthZero { place: _ }
         | Refusal::ConfigurationString { error: _, place: _ }
         | Refusal::UnknownOption { code: _, place: _ }
+        | Refusal::WrongProtocol {
+            protocol: _,
+            place: _,
+        }
         | Refusal::UnknownEntry(_)
         | Refusal::RunOutOfBounds {
             run: _,
