@@ -11,15 +11,9 @@ use sd_index::FoundAnswer;
 use sd_index::Offset;
 use sd_index::Ordinal;
 use sd_index::RunCursor;
-use sd_option::Settings;
+use sd_option::PLAIN;
 use sd_option::kinds::Role;
 use words::told;
-
-// What lookup finds was judged when the payload was read, by the settings of that reading: its fields are read with none.
-const NO_SETTING: Settings = Settings {
-    discard_unknown_option: false,
-    strict: false,
-};
 
 fn family(address: IpAddress) {
     match address {
@@ -132,9 +126,11 @@ fn details(option: SdOption, rest: &[u8]) {
     }
 }
 
+// What lookup finds was judged when the payload was read, by the settings of that reading: here its fields are read with none on.
+
 // An option of a run, by its number and where it stands in the options part: the number, and a few words.
 fn mentioned(number: usize, options: &[u8], offset: Offset) {
-    let answer = sd_field::read_fields(NO_SETTING, sd_index::option_at(options, offset));
+    let answer = sd_field::read_fields(PLAIN, sd_index::option_at(options, offset));
     let FieldsAnswer::Good { option, size: _ } = answer else {
         return;
     };
@@ -147,14 +143,14 @@ fn mentioned(number: usize, options: &[u8], offset: Offset) {
 // An option of the list, by the same: the number, and all that it holds.
 fn listed(number: usize, options: &[u8], offset: Offset) {
     let s = sd_index::option_at(options, offset);
-    let answer = sd_field::read_fields(NO_SETTING, s);
+    let answer = sd_field::read_fields(PLAIN, s);
     let FieldsAnswer::Good { option, size: _ } = answer else {
         return;
     };
     named(b"option ", number);
     text(b": ");
     brief(option);
-    details(option, sd_field::option_rest(NO_SETTING, s));
+    details(option, sd_field::option_rest(PLAIN, s));
 }
 
 // What stands in front of an option of a run: the first, or a later one.
