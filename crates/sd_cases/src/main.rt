@@ -1,93 +1,105 @@
 // Runs the rules' cases of service discovery through the public functions and the exported ones, and prints each on a
 // line: what was read, and the answer with its number and values. The file stdout holds what the rules say; a string's error is told by its
 // place among the six. Where an exported function told something else, the line says so.
-use print::text;
+use case_lines::DISCARDING;
+use case_lines::OFF;
+use case_lines::answer;
+use case_lines::payload;
 use refusal::Verdict;
 use refusal::none;
 use refusal::numbers_of;
 
 mod cases; // cases.rt: the bytes of the cases
-mod parts; // parts.rt: what is told of an entry and of an option
-mod payload; // payload.rt: what is told of a payload
-mod places; // places.rt: where an option is refused
+mod parts; // parts.rt: what is told of a payload's parts
 
 // A configuration string.
 fn string(name: &[u8], s: &[u8]) {
-    text(name);
-    text(b": ");
-    let answer = config_string::check_string(s);
-    let said = match answer {
+    let verdict = config_string::check_string(s);
+    let said = match verdict {
         Verdict::Passed => none(0),
         Verdict::Refused(refusal) => numbers_of(refusal),
     };
-    payload::said(said);
-    payload::exported(said, hub::options::viaductle_string(s));
-    text(b"\n");
+    answer(name, said, hub::options::viaductle_string(s));
 }
 
-// The cases of sizes.
+// The cases of sizes: of the whole, and of its parts.
 fn sizes() {
-    payload::case(b"payload, 12 zero bytes", &[0; 12], false);
-    payload::case(b"payload, 11 zero bytes", &[0; 11], false);
-    payload::case(b"payload, 13 zero bytes", &[0; 13], false);
-    payload::case(
+    payload(b"payload, 12 zero bytes", &[0; 12], OFF);
+    payload(b"payload, 11 zero bytes", &[0; 11], OFF);
+    payload(b"payload, 13 zero bytes", &[0; 13], OFF);
+}
+
+fn sizes_of_parts() {
+    payload(
         b"payload, 12 bytes with entries length 17",
         &cases::twelve(17),
-        false,
+        OFF,
     );
-    payload::case(
+    payload(
         b"payload, 12 bytes with entries length 16",
         &cases::twelve(16),
-        false,
+        OFF,
     );
-    payload::case(
+    payload(
         b"payload, 28 bytes with entries length 16 and options length 1388",
         &cases::long_options(),
-        false,
+        OFF,
     );
 }
 
 // The cases of a whole payload.
 fn whole() {
-    payload::case(b"payload, the rules' whole one", &cases::WHOLE, false);
-    payload::parts(&cases::WHOLE);
-    payload::case(
+    payload(b"payload, the rules' whole one", &cases::WHOLE, OFF);
+    parts::parts(&cases::WHOLE);
+    payload(
         b"the same with run 1 from 1",
         &cases::whole_with(1, 0x10),
-        false,
+        OFF,
     );
-    payload::case(
+    payload(
         b"the same with empty runs, run 1 from 200",
         &cases::whole_with(200, 0),
-        false,
+        OFF,
     );
 }
 
 // The cases of unknown options.
 fn unknown() {
-    payload::case(b"option 00017780", &cases::unknown(0x80), false);
-    payload::case(b"option 00017700", &cases::unknown(0), false);
-    payload::case(b"option 00017700 when discarding", &cases::unknown(0), true);
-    payload::case(b"347 options of four bytes", &cases::many(), false);
+    payload(b"option 00017780", &cases::unknown(0x80), OFF);
+    payload(b"option 00017700", &cases::unknown(0), OFF);
+    payload(
+        b"option 00017700 when discarding",
+        &cases::unknown(0),
+        DISCARDING,
+    );
+    payload(b"347 options of four bytes", &cases::many(), OFF);
 }
 
-// The cases of configuration strings.
-fn strings() {
+// The cases of configuration strings: where they end, their keys, and what does not fit.
+fn ends() {
     string(b"string of no bytes", b"");
     string(b"string 00", b"\x00");
     string(b"string 0000", b"\x00\x00");
+}
+
+fn keys() {
     string(b"string 013D00", b"\x01\x3d\x00");
     string(b"string 012000", b"\x01\x20\x00");
     string(b"string 0241FF00", b"\x02\x41\xff\x00");
     string(b"string 03413DFF00", b"\x03\x41\x3d\xff\x00");
+}
+
+fn lengths() {
     string(b"string 054100", b"\x05\x41\x00");
     string(b"string 0141", b"\x01\x41");
 }
 
 fn main() {
     sizes();
+    sizes_of_parts();
     whole();
     unknown();
-    strings();
-    places::all();
+    ends();
+    keys();
+    lengths();
 }

@@ -1,4 +1,5 @@
-// What is told of an entry, and of an option that was looked up.
+// What is told of the parts of a payload: its first entry, and the first option of that entry's run 1.
+use case_lines::OFF;
 use print::named_code;
 use print::number;
 use print::refused;
@@ -14,6 +15,8 @@ use sd_field::SdOption;
 use sd_field::read_fields;
 use sd_index::FoundAnswer;
 use sd_index::RunCursor;
+use sd_index::SLOTS;
+use sd_payload::PayloadAnswer;
 
 // The head of an entry.
 fn head(h: EntryHead) {
@@ -57,7 +60,7 @@ fn read(e: SdEntry) {
 }
 
 // Prints the first of some entries, and answers the cursor of its run 1.
-pub(crate) fn entry(entries: &[u8]) -> RunCursor {
+fn entry(entries: &[u8]) -> RunCursor {
     text(b"its first entry: ");
     let answer = sd_entry::read_entry(entries);
     match answer {
@@ -127,12 +130,12 @@ fn option(o: SdOption) {
 }
 
 // Prints an option of run 1 that was looked up among the options.
-pub(crate) fn found(options: &[u8], answer: FoundAnswer) {
+fn found(options: &[u8], answer: FoundAnswer) {
     text(b"its run 1: ");
     match answer {
         FoundAnswer::Good(f) => {
             let offset = f.offset;
-            let fields = read_fields(sd_index::option_at(options, offset));
+            let fields = read_fields(OFF, sd_index::option_at(options, offset));
             match fields {
                 FieldsAnswer::Good { option: o, size: _ } => option(o),
                 FieldsAnswer::Refused(refusal) => refused(numbers_of(refusal)),
@@ -141,4 +144,18 @@ pub(crate) fn found(options: &[u8], answer: FoundAnswer) {
         FoundAnswer::Refused(refusal) => refused(numbers_of(refusal)),
     }
     text(b"\n");
+}
+
+// The first entry of a payload, and the first option of its run 1.
+pub(crate) fn parts(payload: &[u8]) {
+    let mut table = [0u16; SLOTS];
+    let answer = sd_payload::read_payload(OFF, payload, &mut table);
+    let PayloadAnswer::Good(p) = answer else {
+        return;
+    };
+    let run = entry(sd_payload::entries_part(payload, answer));
+    let options = sd_payload::options_part(payload, answer);
+    let step = run.next(options, &table, p.options);
+    let first = step.answer;
+    found(options, first);
 }

@@ -21,12 +21,12 @@ pub(crate) fn sum_of_option(o: Option) -> u32 {
 }
 
 // The sum of a few options: where the next one starts is where this one ends.
-pub(crate) fn sum_of_options(options: &[u8]) -> u32 {
+pub(crate) fn sum_of_options(options: &[u8], settings: u32) -> u32 {
     let mut sum: u32 = 0;
     let mut at: usize = 0;
     let mut turns: usize = 0;
     while turns < MOST {
-        let answer = viaductle_next_option(options, at);
+        let answer = viaductle_next_option(options, at, settings);
         sum = add_answer(sum, answer);
         if answer.number != 0 {
             return sum;

@@ -22,12 +22,9 @@ use replay::input;
 use replay::recorded;
 use replay::same;
 
-// The settings of a record: the word's bit for discarding is the record's setting.
+// The settings of a record, as the word that C tells them by.
 fn settings(record: &[u8]) -> u32 {
-    if replay::byte(record, 1) == 1 {
-        return hub::payload::DISCARD;
-    }
-    0
+    replay::byte(record, 1) as u32
 }
 
 // Whether an answer is the recorded one.
@@ -58,7 +55,7 @@ fn parts_agree(record: &[u8], payload: &[u8], places: Places, table: &[u16]) -> 
         && check(record, 1) as u64 == places.entries_len
         && check(record, 2) == sum_of_table(table)
         && check(record, 3) == sum_of_entries(entries)
-        && check(record, 4) == sum_of_options(options)
+        && check(record, 4) == sum_of_options(options, settings(record))
 }
 
 // A payload that was read, with its parts and the table.
@@ -83,19 +80,20 @@ fn behind_header(message: &[u8]) -> &[u8] {
 // The index alone.
 fn index_agrees(record: &[u8], table: &mut [u16]) -> bool {
     let options = input(record);
-    let answer = viaductle_index(options, table);
+    let answer = viaductle_index(options, table, settings(record));
     if !told(record, answer) {
         return false;
     }
     if answer.number != 0 {
         return true;
     }
-    check(record, 0) == sum_of_table(table) && check(record, 1) == sum_of_options(options)
+    check(record, 0) == sum_of_table(table)
+        && check(record, 1) == sum_of_options(options, settings(record))
 }
 
-// How many options an options part has that the index accepts; none where it does not.
+// How many options an options part has that the index accepts with no setting on; none where it does not.
 fn count_of(options: &[u8], table: &mut [u16]) -> usize {
-    let answer = viaductle_index(options, table);
+    let answer = viaductle_index(options, table, 0);
     if answer.number != 0 {
         return 0;
     }
@@ -136,7 +134,7 @@ fn entry_agrees(record: &[u8]) -> bool {
 
 // One option, with its fields.
 fn option_agrees(record: &[u8]) -> bool {
-    let option = viaductle_read_option(input(record));
+    let option = viaductle_read_option(input(record), settings(record));
     let answer = option.answer;
     told(record, answer) && check(record, 0) == sum_of_option(option)
 }

@@ -4,7 +4,7 @@ use print::line;
 use replay::byte;
 use replay::count;
 
-// How many places there are: 0 to 22 for answers, from 30 on for the kinds, from 40 on for the six errors of a string, and the last for all.
+// How many places there are: 0 to 23 for answers, from 30 on for the kinds, from 40 on for the six errors of a string, and the last for all.
 pub(crate) const PLACES: usize = 50;
 
 const KINDS: u8 = 30;
@@ -74,8 +74,8 @@ fn print_strings(counts: &[u32]) {
     line(b"refused with 9, key of spaces only", at(counts, 46));
 }
 
-// Prints the answers.
-fn print_answers(counts: &[u32]) {
+// Prints what was accepted, and the refusals of a payload's sizes.
+fn print_sizes(counts: &[u32]) {
     line(b"accepted", at(counts, 0));
     line(b"refused with 1, unexpected end", at(counts, 1));
     line(b"refused with 2, entries length too large", at(counts, 2));
@@ -83,6 +83,10 @@ fn print_answers(counts: &[u32]) {
     line(b"refused with 4, options length too large", at(counts, 4));
     line(b"refused with 5, payload too large", at(counts, 5));
     line(b"refused with 6, length mismatch", at(counts, 6));
+}
+
+// Prints the refusals of options, entries and the index.
+fn print_parts(counts: &[u32]) {
     line(b"refused with 7, option length", at(counts, 7));
     line(b"refused with 8, option length zero", at(counts, 8));
     print_strings(counts);
@@ -90,18 +94,25 @@ fn print_answers(counts: &[u32]) {
     line(b"refused with 11, unknown entry", at(counts, 11));
     line(b"refused with 12, run out of bounds", at(counts, 12));
     line(b"refused with 13, index too large", at(counts, 13));
+}
+
+// Prints the refusals of a message's header.
+fn print_header(counts: &[u32]) {
     line(b"refused with 14, message id", at(counts, 14));
     line(b"refused with 15, client", at(counts, 15));
     line(b"refused with 16, session 0", at(counts, 16));
     line(b"refused with 17, interface version", at(counts, 17));
     line(b"refused with 18, message type", at(counts, 18));
     line(b"refused with 19, return code", at(counts, 19));
-    line(b"refused with 20, nothing there", at(counts, 20));
 }
 
 // Prints all counts.
 pub(crate) fn print(counts: &[u32]) {
     print_kinds(counts);
-    print_answers(counts);
+    print_sizes(counts);
+    print_parts(counts);
+    print_header(counts);
+    line(b"refused with 20, nothing there", at(counts, 20));
+    line(b"refused with 23, transport protocol", at(counts, 23));
     line(b"records that agree in all", at(counts, RECORDS));
 }

@@ -5,10 +5,10 @@ use Rattle.sd_replay.proofs.options.sum_of_options.Statement.{statement
 use Rattle.sd_replay.proofs.options.sum_of_options.Tie as tie
 
 abbrev Inv-loop : tie.InvT-loop
-Inv-loop options sum₀ at₀ turns₀ sum at turns = turns ≤ 400
+Inv-loop options settings sum₀ at₀ turns₀ sum at turns = turns ≤ 400
 
 abbrev μ-loop : tie.MeasureT-loop
-μ-loop options sum₀ at₀ turns₀ sum at turns = 400 - turns
+μ-loop options settings sum₀ at₀ turns₀ sum at turns = 400 - turns
 
 pub sum-of-options-spec : {M : Type 1} → statement M
 sum-of-options-spec =

@@ -1,26 +1,17 @@
 // The place that a refusal of an option tells. A payload, an index and a message count it from the first byte of the options, whether it is the first
 // option or stands behind another one; an option that is read alone, by the cursor too, from its own first byte.
-use crate::payload;
-use hub::options::viaductle_index;
-use hub::options::viaductle_next_option;
-use hub::payload::viaductle_read_message;
-use print::text;
-use refusal::Count;
-use refusal::none;
-use refusal::numbers_of;
-use sd_index::SLOTS;
-use sd_option::Settings;
-use sd_option::reading::OptionAnswer;
-use sd_payload::PayloadAnswer;
+use crate::readings::by_all;
+use case_lines::OFF;
+use case_lines::payload;
 
 // A payload of no entries with an option, twelve bytes and the option; and one with another option of four bytes in front of it.
 fn case(name: &[u8], first: &[u8], later: &[u8]) {
-    payload::case(name, first, false);
-    payload::case(b"the same behind another option", later, false);
+    payload(name, first, OFF);
+    payload(b"the same behind another option", later, OFF);
 }
 
-// Each error of a string.
-fn strings() {
+// Each error of a string: of its end and its items' lengths, and of its keys.
+fn ends() {
     case(
         b"string of no bytes",
         b"\x00\x00\x00\x00\x00\x00\x00\x00\x00\x00\x00\x04\x00\x01\x01\x00",
@@ -41,6 +32,9 @@ fn strings() {
         b"\x00\x00\x00\x00\x00\x00\x00\x00\x00\x00\x00\x08\x00\x05\x01\x00\x01\x41\x00\x00",
         b"\x00\x00\x00\x00\x00\x00\x00\x00\x00\x00\x00\x0c\x00\x01\x77\x80\x00\x05\x01\x00\x01\x41\x00\x00",
     );
+}
+
+fn keys() {
     case(
         b"empty key",
         b"\x00\x00\x00\x00\x00\x00\x00\x00\x00\x00\x00\x09\x00\x06\x01\x00\x01\x41\x01\x3d\x00",
@@ -58,8 +52,8 @@ fn strings() {
     );
 }
 
-// Each cause of 7, 8 and 10.
-fn options() {
+// Each cause of 7; and 8 and 10.
+fn lengths() {
     case(
         b"option below three bytes",
         b"\x00\x00\x00\x00\x00\x00\x00\x00\x00\x00\x00\x02\x00\x01",
@@ -75,6 +69,9 @@ fn options() {
         b"\x00\x00\x00\x00\x00\x00\x00\x00\x00\x00\x00\x04\x00\x01\x04\x00",
         b"\x00\x00\x00\x00\x00\x00\x00\x00\x00\x00\x00\x08\x00\x01\x77\x80\x00\x01\x04\x00",
     );
+}
+
+fn others() {
     case(
         b"option of length 0",
         b"\x00\x00\x00\x00\x00\x00\x00\x00\x00\x00\x00\x03\x00\x00\x77",
@@ -87,56 +84,14 @@ fn options() {
     );
 }
 
-// An option alone.
-fn alone(option: &[u8]) {
-    let answer = sd_option::reading::read_option(option);
-    let n = match answer {
-        OptionAnswer::Good(_) => none(0),
-        OptionAnswer::Refused(refusal) => numbers_of(refusal),
-    };
-    text(b"byte behind the terminator of an option alone: ");
-    payload::said(n);
-    payload::exported(n, viaductle_next_option(option, 0));
-    text(b"\n");
-}
-
-// An index.
-fn index(options: &[u8]) {
-    let mut table = [0u16; SLOTS];
-    let answer = sd_index::read_index(options, &mut table);
-    let n = match answer {
-        Count::Good(_) => none(0),
-        Count::Refused(refusal) => numbers_of(refusal),
-    };
-    text(b"the same in an index, behind another option: ");
-    payload::said(n);
-    payload::exported(n, viaductle_index(options, &mut table));
-    text(b"\n");
-}
-
-// A message.
-fn message(message: &[u8]) {
-    let mut table = [0u16; SLOTS];
-    let settings = Settings {
-        discard_unknown_option: false,
-    };
-    let answer = sd_payload::read_message(settings, message, &mut table);
-    let n = match answer {
-        PayloadAnswer::Good(_) => none(0),
-        PayloadAnswer::Refused(refusal) => numbers_of(refusal),
-    };
-    text(b"the same in a message, behind another option: ");
-    payload::said(n);
-    payload::exported(n, viaductle_read_message(message, &mut table, 0));
-    text(b"\n");
-}
-
 pub(crate) fn all() {
-    strings();
-    options();
-    alone(b"\x00\x05\x01\x00\x01\x41\x00\x00");
-    index(b"\x00\x01\x77\x80\x00\x05\x01\x00\x01\x41\x00\x00");
-    message(
+    ends();
+    keys();
+    lengths();
+    others();
+    by_all(
+        b"byte behind the terminator of an option alone",
         b"\xff\xff\x81\x00\x00\x00\x00\x20\x00\x00\x00\x01\x01\x01\x02\x00\x80\x00\x00\x00\x00\x00\x00\x00\x00\x00\x00\x0c\x00\x01\x77\x80\x00\x05\x01\x00\x01\x41\x00\x00",
+        OFF,
     );
 }
