@@ -70,7 +70,7 @@ enum viaductle_number {
     VIADUCTLE_UNALIGNED = 32,                /* offset, length: more follows, and the length is not a multiple of 16 */
     VIADUCTLE_CONFLICTING_END = 33,          /* previous end, new end */
     VIADUCTLE_BUFFER_TOO_SHORT = 34,         /* length needed */
-    VIADUCTLE_RANGES_FULL = 35,              /* none: more than 32 ranges after joining */
+    VIADUCTLE_RANGES_FULL = 35,              /* none: more than VIADUCTLE_MAX_RANGES after joining */
     VIADUCTLE_LIMIT_TOO_LARGE = 36,          /* limit: above 65,520 */
     VIADUCTLE_NOT_COMPLETE = 37,             /* none */
     VIADUCTLE_MALFORMED_STATE = 38           /* none */
@@ -293,17 +293,20 @@ viaductle_entry viaductle_next_entry(const uint8_t *entries, size_t len, size_t 
  * buffer at each call (a longer one may follow, with the old bytes in front). `viaductle_begin`; `viaductle_consume` for each segment; once
  * `viaductle_complete` says 1, `viaductle_take`, and `viaductle_clear` for the next message. */
 
-/* The state of a stream is an array of this many words that the caller keeps: the limit, how many ranges are held, whether an end is known
- * (0 or 1), the end, and 32 pairs of start and end, of which as many count as ranges are held. It can be copied, stored and sent; any words
- * get an answer. Words past these are never touched. */
-#define VIADUCTLE_WORDS 68
+/* How many ranges a stream holds at most: parts of the report that have arrived, with gaps between them. */
+#define VIADUCTLE_MAX_RANGES 64
+
+/* The state of a stream is an array of VIADUCTLE_WORDS words that the caller keeps: the limit, how many ranges are held, whether an end is known
+ * (0 or 1), the end, and VIADUCTLE_MAX_RANGES pairs of start and end, of which as many count as ranges are held. It can be copied, stored and
+ * sent; any words get an answer. Words past these are never touched. */
+#define VIADUCTLE_WORDS (4 + 2 * VIADUCTLE_MAX_RANGES)
 
 /* The highest payload limit, and a buffer's bytes that are enough for any segment under a limit. */
 #define VIADUCTLE_MAX_LIMIT 65520
 #define VIADUCTLE_BUFFER_LEN(limit) (16 + (size_t)(limit))
 
-/* A stream begins; all 68 words are written.
- *   0. 38 with fewer words than 68, and nothing is written; 36, and the state then has limit 0 and holds nothing. */
+/* A stream begins; all VIADUCTLE_WORDS words are written.
+ *   0. 38 with fewer words, and nothing is written; 36, and the state then has limit 0 and holds nothing. */
 viaductle_answer viaductle_begin(uint32_t *state, size_t words, uint32_t limit);
 
 /* One segment comes: 16 header bytes, 4 TP bytes and its payload, as on the wire.
@@ -322,7 +325,8 @@ viaductle_answer viaductle_take(const uint32_t *state, size_t words, uint8_t *bu
 
 /* Ranges and end are forgotten and the limit is kept; pairs that hold no range any more stay as they are. No byte of the buffer is touched.
  *   0, also where the ranges or the end were malformed.
- *   38 where the words hold no stream, and then nothing is written: fewer than 68, or neither 0 nor 1 where they tell whether an end is known. */
+ *   38 where the words hold no stream, and then nothing is written: fewer than VIADUCTLE_WORDS, or neither 0 nor 1 where they tell whether an
+ *   end is known. */
 viaductle_answer viaductle_clear(uint32_t *state, size_t words);
 
 #ifdef __cplusplus

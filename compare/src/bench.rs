@@ -313,17 +313,23 @@ fn reading<P: Calls>(port: &P, meter: &Meter, payloads: &[&Vec<u8>]) -> [f64; 3]
     beside(meter, payloads.len(), [&mut theirs, &mut ours, &mut strict])
 }
 
-/// The segments of a report of 65,520 bytes, 1,392 in each but the last.
-fn report_segments() -> Vec<Vec<u8>> {
+/// The segments of a report of 65,520 bytes, so many in each but the last.
+fn report_segments(length: usize) -> Vec<Vec<u8>> {
     let total = MOST_LIMIT as usize;
     let payload: Vec<u8> = (0..total).map(|at| at as u8).collect();
     (0..total)
-        .step_by(1392)
+        .step_by(length)
         .map(|at| {
-            let end = total.min(at + 1392);
+            let end = total.min(at + length);
             segment(at as u32, end < total, &payload[at..end])
         })
         .collect()
+}
+
+/// Every second segment, and then the others.
+fn odd_even(segments: &[Vec<u8>]) -> Vec<&Vec<u8>> {
+    let others = segments.iter().skip(1).step_by(2);
+    segments.iter().step_by(2).chain(others).collect()
 }
 
 /// Joining one report: the same memory each time, cleared before, taken after.
@@ -417,20 +423,16 @@ pub fn run<P: Calls>(port: &P, meter: &Meter, seed: u64) {
     if measured.iter().zip(weighted).any(|(a, b)| !alike(*a, b)) {
         println!("\nThe whole mix is not what its kinds add up to: do not believe it, and run again on a quiet machine.");
     }
-    let segments = report_segments();
-    let in_order: Vec<&Vec<u8>> = segments.iter().collect();
-    let odd_even: Vec<&Vec<u8>> = segments
-        .iter()
-        .step_by(2)
-        .chain(segments.iter().skip(1).step_by(2))
-        .collect();
-    let reversed: Vec<&Vec<u8>> = segments.iter().rev().collect();
+    let segments = report_segments(1392);
+    // As many ranges are held half way as may be.
+    let many = report_segments(512);
     println!("\n| joining 65,520 bytes | segments | crate, {unit} a report | Viaductle, {unit} a report | ratio |");
     println!("|---|---|---|---|---|");
     for (name, order) in [
-        ("in order", in_order),
-        ("every second, then the others", odd_even),
-        ("reversed", reversed),
+        ("in order", segments.iter().collect()),
+        ("every second, then the others", odd_even(&segments)),
+        ("reversed", segments.iter().rev().collect()),
+        ("every second, then the others", odd_even(&many)),
     ] {
         let [theirs, ours] = joining(port, meter, &order);
         print_row(name, &order.len().to_string(), theirs, ours);

@@ -175,9 +175,10 @@ impl fmt::Display for Settings {
 
 /// The slots of a table that a reading fills.
 pub const SLOTS: usize = 347;
-/// The words of a stream's state: limit, count of ranges, whether an end is known, the end, 32 pairs of start and end.
-pub const WORDS: usize = 68;
-pub const MOST_RANGES: usize = 32;
+/// How many ranges a stream holds at most; runs are equal as far as the crate holds no more.
+pub const MOST_RANGES: usize = 64;
+/// The words of a stream's state: limit, count of ranges, whether an end is known, the end, and for each range its start and end.
+pub const WORDS: usize = 4 + 2 * MOST_RANGES;
 pub const MOST_LIMIT: u32 = 65_520;
 
 /// One method for each exported function.

@@ -1,6 +1,6 @@
 //! Writes the crate's answers to seeded inputs, for replay by programs that have no Rust. FORMAT.md has the layout.
 
-use crate::calls::{Answer, Settings, SLOTS};
+use crate::calls::{Answer, Settings, MOST_RANGES, SLOTS};
 use crate::oracle;
 use crate::oracle_tp::{has_bytes_behind, Stream};
 use crate::places::{self, Cause, Faults};
@@ -646,7 +646,7 @@ fn sequence_records(list: &mut List, sequence: &Sequence) -> bool {
     true
 }
 
-/// The list of streams: at least 3,200 sequences.
+/// The list of streams: at least 3,200 sequences, and behind them reports in odd-even order.
 pub fn streams(seed: u64) -> List {
     let mut list = List::default();
     let mut number = 0;
@@ -663,7 +663,17 @@ pub fn streams(seed: u64) -> List {
             sequences += 1;
         }
     }
+    odd_even_records(&mut list, seed);
     list
+}
+
+/// Reports of 8, 16, .. segments in odd-even order, until as many ranges are held as may be.
+fn odd_even_records(list: &mut List, seed: u64) {
+    for (number, segments) in (8..=2 * MOST_RANGES).step_by(8).enumerate() {
+        let mut r = Random::of(seed, family::ODD_EVEN_RECORD, number as u64);
+        let sequence = tp_inputs::odd_even(&mut r, segments, 16);
+        assert!(sequence_records(list, &sequence), "inside the domain");
+    }
 }
 
 /// Writes both lists into `folder`.

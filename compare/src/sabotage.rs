@@ -55,6 +55,7 @@ pub enum Fault {
     ReportLengthWrong,
     RefusalWrites,
     GapFillerRefused,
+    FullOneEarly,
     ClearKeepsEnd,
     ClearWipesPairs,
     NoStreamCleared,
@@ -105,7 +106,7 @@ const SERVICE_DISCOVERY: [Fault; 40] = [
     TableLeftAfterProtocol,
     InputDamaged,
 ];
-const STREAMS: [Fault; 11] = [
+const STREAMS: [Fault; 12] = [
     SegmentSwallowed,
     FirstBytesWin,
     EndIgnored,
@@ -114,6 +115,7 @@ const STREAMS: [Fault; 11] = [
     ReportLengthWrong,
     RefusalWrites,
     GapFillerRefused,
+    FullOneEarly,
     ClearKeepsEnd,
     ClearWipesPairs,
     NoStreamCleared,
@@ -418,6 +420,13 @@ impl<P: Calls> Calls for Faulty<'_, P> {
             }
             RefusalWrites if answer.number == 33 => buffer[16] ^= 1,
             GapFillerRefused if answer.accepted() && held[1] as usize == MOST_RANGES => {
+                state.copy_from_slice(&held);
+                buffer.copy_from_slice(&bytes);
+                return Answer::new(35, &[]);
+            }
+            FullOneEarly
+                if state[1] as usize == MOST_RANGES && (held[1] as usize) < MOST_RANGES =>
+            {
                 state.copy_from_slice(&held);
                 buffer.copy_from_slice(&bytes);
                 return Answer::new(35, &[]);

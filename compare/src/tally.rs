@@ -1,6 +1,6 @@
 //! What a run counted, and the first differences that it found.
 
-use crate::calls::{Answer, Settings};
+use crate::calls::{Answer, Settings, MOST_RANGES};
 use crate::places::Faults;
 use std::collections::BTreeMap;
 use std::fmt::{Debug, Write};
@@ -50,6 +50,8 @@ pub struct Tally {
     pub by_settings: BTreeMap<(&'static str, Settings), [u64; 3]>,
     /// Payloads, messages and options parts that are refused by 23, by what the crate itself says of them.
     pub before: BTreeMap<u64, u64>,
+    /// Sequences by the most ranges that were held at once.
+    pub held: Counts,
     /// Answers that the crate has not, judged by the rules alone, by number.
     pub by_document: BTreeMap<u64, u64>,
     /// Inputs that fell outside what can be compared, by why.
@@ -92,6 +94,18 @@ impl Tally {
         }] += 1;
     }
 
+    /// Counts a sequence by the most ranges that were held at once.
+    pub fn held(&mut self, most: usize) {
+        const FEWER: usize = MOST_RANGES - 1;
+        let name = match most {
+            0..=8 => "up to 8",
+            9..=32 => "9 to 32",
+            33..=FEWER => "33 and more, but not all",
+            _ => "as many as may be held",
+        };
+        self.held.add(name, 1);
+    }
+
     pub fn document(&mut self, number: u64) {
         *self.by_document.entry(number).or_default() += 1;
     }
@@ -123,6 +137,7 @@ impl Tally {
         for (mine, theirs) in [
             (&mut self.inputs, other.inputs),
             (&mut self.compared, other.compared),
+            (&mut self.held, other.held),
             (&mut self.left_out, other.left_out),
         ] {
             for (name, count) in theirs.0 {
@@ -172,6 +187,9 @@ impl Tally {
         }
         for (number, count) in &self.before {
             println!("  {count:>12}  {}", answer_name(*number));
+        }
+        if !self.held.0.is_empty() {
+            self.held.print("sequences by the most ranges that were held at once");
         }
         println!("answers that the crate has not, compared with the rules alone:");
         for (number, count) in &self.by_document {

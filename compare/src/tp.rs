@@ -5,6 +5,9 @@ use crate::oracle_tp::{has_bytes_behind, Seen, Stream};
 use crate::tally::{hex, Tally};
 use crate::tp_inputs::{Sequence, Step};
 
+/// How words that are one too few are called.
+const ONE_FEWER: &str = "a word fewer than a state has";
+
 /// A way to damage a state.
 type Spoil = fn(&mut [u32; WORDS]);
 
@@ -63,7 +66,7 @@ impl<'a, P: Calls> Tp<'a, P> {
         }
     }
 
-    /// One sequence inside the rules' domain: the buffer has room for the limit. A segment that would make a 33rd range is not handed to
+    /// One sequence inside the rules' domain: the buffer has room for the limit. A segment that would make a range too many is not handed to
     /// the crate; 35 is due.
     pub fn sequence(&mut self, sequence: &Sequence) {
         self.tally.input("sequences of segments");
@@ -76,14 +79,18 @@ impl<'a, P: Calls> Tp<'a, P> {
             .same("begin", &Answer::default(), &began, || name(sequence, 0));
         self.state_is(&stream, &lent, &touched, sequence, 0);
         let differences = self.tally.differences;
+        let mut most = 0;
         for (number, step) in sequence.steps.iter().enumerate() {
-            self.step(step, &mut stream, &mut lent, &mut touched, sequence, number);
+            let held = self.step(step, &mut stream, &mut lent, &mut touched, sequence, number);
+            most = most.max(held);
             if self.tally.differences > differences {
                 return;
             }
         }
+        self.tally.held(most);
     }
 
+    /// One step; answers how many ranges the crate holds after it.
     fn step(
         &mut self,
         step: &Step,
@@ -92,7 +99,7 @@ impl<'a, P: Calls> Tp<'a, P> {
         touched: &mut Touched,
         sequence: &Sequence,
         number: usize,
-    ) {
+    ) -> usize {
         let held = lent.state;
         match step {
             Step::Segment(segment) => {
@@ -134,7 +141,7 @@ impl<'a, P: Calls> Tp<'a, P> {
                     });
             }
         }
-        self.state_is(stream, lent, touched, sequence, number);
+        self.state_is(stream, lent, touched, sequence, number)
     }
 
     /// The crate's answer to a segment, or 35 by the rules.
@@ -156,7 +163,7 @@ impl<'a, P: Calls> Tp<'a, P> {
         answer
     }
 
-    /// Limit, ranges, end, whether complete, and every byte of the buffer.
+    /// Limit, ranges, end, whether complete, and every byte of the buffer; answers how many ranges the crate holds.
     fn state_is(
         &mut self,
         stream: &Stream,
@@ -164,7 +171,7 @@ impl<'a, P: Calls> Tp<'a, P> {
         touched: &Touched,
         sequence: &Sequence,
         number: usize,
-    ) {
+    ) -> usize {
         let seen = stream.seen();
         let want = (sequence.limit, seen.ranges.clone(), seen.end);
         self.tally
@@ -178,6 +185,7 @@ impl<'a, P: Calls> Tp<'a, P> {
         self.buffer_is(&seen, stream.header_set, lent, touched, || {
             name(sequence, number)
         });
+        seen.ranges.len()
     }
 
     /// Under the ranges and in the header the crate's bytes; elsewhere what was there before, but for bytes that an earlier stream set.
@@ -285,7 +293,7 @@ impl<'a, P: Calls> Tp<'a, P> {
     fn malformed(&mut self, lent: &Lent, sequence: &Sequence) {
         let limit = lent.state[0];
         let damage: [(&str, Spoil); 8] = [
-            ("more than 32 ranges", |s| s[1] = 33),
+            ("a range too many", |s| s[1] = MOST_RANGES as u32 + 1),
             ("a range that ends before its start", |s| {
                 s[1] = 1;
                 (s[4], s[5]) = (16, 0);
@@ -343,18 +351,18 @@ impl<'a, P: Calls> Tp<'a, P> {
             .port
             .consume(&mut state[..WORDS - 1], &segment, &mut buffer);
         self.tally
-            .same("consume, few words", &want, &got, || "67 words".into());
+            .same("consume, few words", &want, &got, || ONE_FEWER.into());
         let got = self.port.clear(&mut state[..WORDS - 1]);
         self.tally
-            .same("clear, few words", &want, &got, || "67 words".into());
+            .same("clear, few words", &want, &got, || ONE_FEWER.into());
         let got = self.port.begin(&mut state[..WORDS - 1], 16);
         self.tally
-            .same("begin, few words", &want, &got, || "67 words".into());
+            .same("begin, few words", &want, &got, || ONE_FEWER.into());
         self.tally.same(
             "all as it was",
             &(lent.state, &lent.buffer),
             &(state, &buffer),
-            || "67 words".into(),
+            || ONE_FEWER.into(),
         );
     }
 }

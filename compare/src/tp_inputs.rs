@@ -1,5 +1,5 @@
 //! Seeded sequences of segments for one stream: cut messages in every order, overlaps, repeats, empty segments, conflicting ends, gaps up to
-//! 32 ranges, and bytes that are no segments; and the exhaustive short sequences.
+//! as many ranges as may be held and one more, and bytes that are no segments; reports in odd-even order; and the exhaustive short sequences.
 
 use crate::calls::{MOST_LIMIT, MOST_RANGES};
 use crate::random::Random;
@@ -148,9 +148,10 @@ fn wild(r: &mut Random, limit: usize, steps: &mut Vec<Step>) {
     }
 }
 
-/// Up to 32 ranges with gaps between them, then the gaps filled in any order: a place freed by joining is used again.
+/// Ranges with gaps between them, at most one too many; then the gaps filled in any order: a place freed by joining is used again.
 fn gaps(r: &mut Random, steps: &mut Vec<Step>) -> usize {
-    let count = r.pick(&[3, 8, 31, 32, 32, MOST_RANGES + 1]);
+    let most = MOST_RANGES;
+    let count = r.pick(&[3, 8, most - 1, most, most, most + 1]);
     let mut islands: Vec<usize> = (0..count).collect();
     r.shuffle(&mut islands);
     for at in &islands {
@@ -174,6 +175,11 @@ fn gaps(r: &mut Random, steps: &mut Vec<Step>) -> usize {
     32 * count
 }
 
+/// Every second one, beginning with the first or the second.
+fn every_second<T: Copy>(all: &[T], first: usize) -> impl Iterator<Item = T> + '_ {
+    all.iter().copied().skip(first).step_by(2)
+}
+
 /// A 64 KB report from segments of 1,392 bytes, in any order.
 fn large(r: &mut Random, steps: &mut Vec<Step>) {
     let total = r.pick(&[65_520, 65_519, 65_505, 30_000]);
@@ -181,16 +187,8 @@ fn large(r: &mut Random, steps: &mut Vec<Step>) {
     match r.below(4) {
         0 => {}
         1 => pieces.reverse(),
-        2 => {
-            let odd = pieces.iter().copied().skip(1).step_by(2);
-            pieces = pieces.iter().copied().step_by(2).chain(odd).collect();
-        }
-        _ => {
-            // Shuffled in windows, so that no more than 32 ranges come up.
-            for window in pieces.chunks_mut(20) {
-                r.shuffle(window)
-            }
-        }
+        2 => pieces = every_second(&pieces, 0).chain(every_second(&pieces, 1)).collect(),
+        _ => r.shuffle(&mut pieces),
     }
     for at in pieces {
         let length = 1392.min(total - at);
@@ -241,6 +239,40 @@ pub fn sequence(r: &mut Random) -> Sequence {
     steps.push(Step::Take);
     Sequence {
         limit: limit as u32,
+        spare: r.pick(&[0, 0, 1, 9]),
+        steps,
+    }
+}
+
+/// How many segments a report in odd-even order has at most: a range more than may be held comes up.
+pub const MOST_ODD_EVEN: usize = 2 * MOST_RANGES + 1;
+
+/// A report of so many segments of `length` bytes, the last shorter at times: every second one, beginning with the first or the second, and then the
+/// others; each half front to back, or back to front, or in any order.
+pub fn odd_even(r: &mut Random, segments: usize, length: usize) -> Sequence {
+    let pieces: Vec<usize> = (0..segments).collect();
+    let total = segments * length - r.pick(&[0, 0, 1, length - 1]);
+    let first = r.below(2);
+    let mut steps = Vec::new();
+    for half in [first, 1 - first] {
+        let mut half: Vec<usize> = every_second(&pieces, half).collect();
+        match r.below(4) {
+            0 => half.reverse(),
+            1 => r.shuffle(&mut half),
+            _ => {}
+        }
+        for piece in half {
+            let (at, end) = (piece * length, total.min((piece + 1) * length));
+            let bytes = random_segment(r, at, end < total, end - at);
+            steps.push(Step::Segment(bytes));
+            if r.once_in(10) {
+                steps.push(Step::Take);
+            }
+        }
+    }
+    steps.push(Step::Take);
+    Sequence {
+        limit: r.pick(&[total, total, segments * length]) as u32,
         spare: r.pick(&[0, 0, 1, 9]),
         steps,
     }

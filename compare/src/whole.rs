@@ -1,6 +1,6 @@
 //! The whole comparison: every kind of input over every thread, in one tally.
 
-use crate::calls::{Calls, Settings, SLOTS};
+use crate::calls::{Calls, Settings, MOST_LIMIT, SLOTS};
 use crate::inputs;
 use crate::places::Cause;
 use crate::plan::{family, Exhaustive, Plan};
@@ -202,6 +202,19 @@ pub fn one_sequence<P: Calls>(tp: &mut Tp<P>, seed: u64, number: u64) {
     tp.sequence(&tp_inputs::sequence(&mut r));
 }
 
+/// A report in odd-even order, of every number of segments in turn; one in eight is up to 64 KB long.
+fn one_odd_even<P: Calls>(tp: &mut Tp<P>, seed: u64, number: u64) {
+    let mut r = Random::of(seed, family::ODD_EVEN, number);
+    let segments = 1 + number as usize % tp_inputs::MOST_ODD_EVEN;
+    let most = MOST_LIMIT as usize / segments / 16;
+    let sixteens = if r.once_in(8) {
+        r.between(1, most.min(87))
+    } else {
+        r.between(1, 3)
+    };
+    tp.sequence(&tp_inputs::odd_even(&mut r, segments, 16 * sixteens));
+}
+
 /// A sequence outside it, where the rules alone say what is due.
 fn one_short<P: Calls>(tp: &mut Tp<P>, seed: u64, number: u64) {
     let mut r = Random::of(seed, family::SHORT, number);
@@ -362,6 +375,7 @@ pub fn service_discovery<P: Calls>(port: &P, plan: &Plan) -> Tally {
 /// The side of the streams.
 pub fn streams<P: Calls>(port: &P, plan: &Plan) -> Tally {
     let mut whole = with_tp(port, plan, plan.sequences, one_sequence);
+    whole.add(with_tp(port, plan, plan.sequences / 100, one_odd_even));
     whole.add(with_tp(port, plan, plan.sequences / 20, one_short));
     if plan.exhaustive > Exhaustive::None {
         whole.add(all_sequences(port, plan));

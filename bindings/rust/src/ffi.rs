@@ -80,7 +80,7 @@ pub(crate) const MAX_SD_OPTIONS: usize = 347;
 /// The highest payload limit of a stream.
 pub(crate) const MAX_LIMIT: u32 = 65_520;
 /// The ranges that a stream's state has room for.
-pub(crate) const MAX_RANGES: usize = 32;
+pub(crate) const MAX_RANGES: usize = 64;
 /// The words of a stream's state: limit, count of ranges, whether an end is known, the end, then start and end of each range.
 pub(crate) const WORDS: usize = 4 + 2 * MAX_RANGES;
 

@@ -7,6 +7,9 @@ use core::hash::{Hash, Hasher};
 /// The highest payload limit of a stream.
 pub const MAX_TP_PAYLOAD_LEN: u32 = ffi::MAX_LIMIT;
 
+/// How many ranges a stream holds at most: parts of the report that have arrived, with gaps between them.
+pub const MAX_TP_RANGES: usize = ffi::MAX_RANGES;
+
 /// The words of a stream's state.
 pub const TP_STREAM_WORDS: usize = ffi::WORDS;
 
@@ -49,7 +52,7 @@ impl TpStream {
     }
 
     /// The stream of these words, which are not judged here: limit, count of ranges, 1 if an end is known and else 0, the end, then start and
-    /// end of each of the 32 ranges.
+    /// end of each of [`MAX_TP_RANGES`] ranges.
     pub fn from_words(words: [u32; TP_STREAM_WORDS]) -> Self {
         TpStream { words }
     }

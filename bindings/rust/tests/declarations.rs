@@ -191,12 +191,17 @@ fn number(text: &str) -> u64 {
     }
 }
 
-/// A constant of Rattle or Rust.
-fn constant(source: &str, name: &str) -> u64 {
+/// What a constant of Rattle or Rust is said to be.
+fn said<'a>(source: &'a str, name: &str) -> &'a str {
     let (_, rest) = source
         .split_once(&format!("const {name}: "))
         .unwrap_or_else(|| panic!("no {name}"));
-    number(between(rest, '=', ';').0)
+    between(rest, '=', ';').0.trim()
+}
+
+/// A constant of Rattle or Rust that is a number.
+fn constant(source: &str, name: &str) -> u64 {
+    number(said(source, name))
 }
 
 /// What a header defines.
@@ -265,16 +270,18 @@ fn the_constants_are_the_same() {
         ("STRICT", "STRICT", "hub", "STRICT"),
         ("MAX_SD_OPTIONS", "SLOTS", "sd_index", "SLOTS"),
         ("MAX_LIMIT", "MAX_LIMIT", "tp_stream", "MAX_LIMIT"),
+        ("MAX_RANGES", "MAX_RANGES", "tp_range", "MAX_RANGES"),
     ] {
         let value = constant(&ffi, here);
         assert_eq!(value, number(defined(&header, in_c)), "{in_c}");
         let source = repository(&format!("crates/{of}/src")).unwrap();
         assert_eq!(value, constant(&source, there), "{there}");
     }
-    let ranges = constant(&ffi, "MAX_RANGES");
-    assert_eq!(number(defined(&header, "WORDS")), 4 + 2 * ranges);
-    let source = repository("crates/tp_range/src").unwrap();
-    assert_eq!(ranges, constant(&source, "MAX_RANGES"));
+    let words = said(&ffi, "WORDS");
+    let source = repository("crates/tp_words/src").unwrap();
+    assert_eq!(words, said(&source, "WORDS"));
+    let in_c = words.replace("MAX_RANGES", "VIADUCTLE_MAX_RANGES");
+    assert_eq!(defined(&header, "WORDS"), format!("({in_c})"));
 
     let version = env!("CARGO_PKG_VERSION");
     assert_eq!(defined(&header, "VERSION"), format!("\"{version}\""));

@@ -5,7 +5,7 @@ use common::*;
 use viaductle::sd::{
     OffsetTable, SdEntriesIterator, SdEntrySlice, SdMessage, SdOptionSlice, SdOptionsIndex, SdSlice,
 };
-use viaductle::{Refusal, TpBuf, TpStream, MAX_REFUSAL_VALUES};
+use viaductle::{Refusal, TpBuf, TpStream, MAX_REFUSAL_VALUES, TP_STREAM_WORDS};
 
 fn is(refusal: Refusal, number: u64, values: &[u64], text: &str) {
     assert_eq!((refusal.number(), &refusal.values()[..]), (number, values));
@@ -311,7 +311,7 @@ fn r23_protocols() {
 
 #[test]
 fn r30_to_r38_streams() {
-    let mut buffer = [0; 16 + 2048];
+    let mut buffer = [0; 16 + 4096];
     let mut stream = TpBuf::new(1024, &mut buffer[..16 + 512]).unwrap();
     let not_one = "not one TP segment: under 20 bytes, or a length field that is not the byte count less 8, or a protocol version other than 1, or no TP message type";
     let good = segment(0, false, &[0; 16]);
@@ -365,17 +365,17 @@ fn r30_to_r38_streams() {
         &[32, 48],
         "a segment ends at 48, but the report's end is known to be 32",
     );
-    let mut full = TpBuf::new(2048, &mut buffer).unwrap();
-    for place in 0..32 {
+    let mut full = TpBuf::new(4096, &mut buffer).unwrap();
+    for place in 0..64 {
         full.consume_tp(&segment(32 * place, true, &[0; 16]))
             .unwrap();
     }
     is(
-        full.consume_tp(&segment(32 * 32, true, &[0; 16]))
+        full.consume_tp(&segment(32 * 64, true, &[0; 16]))
             .unwrap_err(),
         35,
         &[],
-        "too many gaps: 32 separate ranges are held, and this segment joins none of them",
+        "too many gaps: 64 separate ranges are held, and this segment joins none of them",
     );
     is(
         TpStream::new(65_521).unwrap_err(),
@@ -383,7 +383,7 @@ fn r30_to_r38_streams() {
         &[65_521],
         "a payload limit of 65521 was asked for; at most 65520 is possible",
     );
-    let mut malformed = TpStream::from_words([u32::MAX; 68]);
+    let mut malformed = TpStream::from_words([u32::MAX; TP_STREAM_WORDS]);
     is(
         malformed.consume_tp(&good, &mut buffer).unwrap_err(),
         38,

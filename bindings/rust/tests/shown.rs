@@ -5,7 +5,7 @@ use common::*;
 use viaductle::sd::{
     OffsetTable, SdEntriesIterator, SdMessage, SdOptionsIndex, SdOptionsIterator, SdSlice,
 };
-use viaductle::{TpBuf, TpStream};
+use viaductle::{TpBuf, TpStream, TP_STREAM_WORDS};
 
 const OFFER: &str = "OfferService { service_id: 0x1234, instance_id: 0x5678, major_version: 1, ttl: 3600, run_1: 0..1, run_2: 0..0, minor_version: 16777216 }";
 const ENDPOINT: &str =
@@ -104,7 +104,7 @@ fn a_stream() {
         format!("TpBuf {{ stream: {shown}, buffer: 80 bytes }}")
     );
     assert_eq!(
-        format!("{:?}", TpStream::from_words([9; 68])),
+        format!("{:?}", TpStream::from_words([9; TP_STREAM_WORDS])),
         "TpStream { words: no state of a stream, [9, 9, 9, 9] .. }"
     );
 }

@@ -2,7 +2,7 @@
 
 mod common;
 use common::*;
-use viaductle::{Refusal, TpBuf, TpRange, TpStream};
+use viaductle::{Refusal, TpBuf, TpRange, TpStream, MAX_TP_RANGES, TP_STREAM_WORDS};
 
 #[test]
 fn a_report_in_any_order() {
@@ -57,21 +57,44 @@ fn the_newest_bytes_win() {
 fn a_gap_filler_is_taken_where_a_new_range_is_not() {
     let mut buffer = vec![0; 16 + 65_520];
     let mut stream = TpBuf::new(65_520, &mut buffer).unwrap();
-    for place in 0..32 {
+    for place in 0..64 {
         stream
             .consume_tp(&segment(32 * place, true, &[0; 16]))
             .unwrap();
     }
+    assert_eq!(stream.stream().ranges().count(), MAX_TP_RANGES);
     let kept = *stream.stream();
     assert_eq!(
-        stream.consume_tp(&segment(1024, true, &[0; 16])),
+        stream.consume_tp(&segment(2048, true, &[0; 16])),
         Err(Refusal::RangesFull)
     );
     assert_eq!(*stream.stream(), kept);
     stream.consume_tp(&segment(16, true, &[0; 16])).unwrap();
-    assert_eq!(stream.stream().ranges().count(), 31);
-    stream.consume_tp(&segment(1024, true, &[0; 16])).unwrap();
-    assert_eq!(stream.stream().ranges().count(), 32);
+    assert_eq!(stream.stream().ranges().count(), 63);
+    stream.consume_tp(&segment(2048, true, &[0; 16])).unwrap();
+    assert_eq!(stream.stream().ranges().count(), 64);
+}
+
+/// Every second segment, and then the others: as many ranges as there are pairs.
+#[test]
+fn a_report_in_odd_even_order() {
+    let report: Vec<u8> = (0..65_520).map(|at| (at / 7) as u8).collect();
+    let pieces: Vec<(usize, &[u8])> = (0..).step_by(512).zip(report.chunks(512)).collect();
+    assert_eq!(pieces.len(), 2 * MAX_TP_RANGES);
+    let mut buffer = vec![0; 16 + report.len()];
+    let mut stream = TpBuf::new(report.len() as u32, &mut buffer).unwrap();
+    for first in [1, 0] {
+        for (at, bytes) in pieces.iter().skip(first).step_by(2) {
+            let more = at + bytes.len() < report.len();
+            stream
+                .consume_tp(&segment(*at as u32, more, bytes))
+                .unwrap();
+        }
+        let held = [1, MAX_TP_RANGES][first];
+        assert_eq!(stream.stream().ranges().count(), held);
+        assert_eq!(stream.is_complete(), held == 1);
+    }
+    assert_eq!(stream.take().unwrap().payload(), report);
 }
 
 #[test]
@@ -116,7 +139,7 @@ fn a_stream_kept_apart_from_its_buffer() {
 #[test]
 fn malformed_states_are_refused_everywhere() {
     let state = |limit, count, has_end, end, ranges: &[u32]| {
-        let mut words = [0; 68];
+        let mut words = [0; TP_STREAM_WORDS];
         words[..4].copy_from_slice(&[limit, count, has_end, end]);
         words[4..4 + ranges.len()].copy_from_slice(ranges);
         words
@@ -124,14 +147,14 @@ fn malformed_states_are_refused_everywhere() {
     let good = state(64, 2, 1, 64, &[0, 16, 32, 48]);
     let bad = [
         state(65_521, 0, 0, 0, &[]),
-        state(64, 33, 0, 0, &[]),
+        state(64, MAX_TP_RANGES as u32 + 1, 0, 0, &[]),
         state(64, u32::MAX, 0, 0, &[]),
         state(64, 1, 0, 0, &[32, 16]),
         state(64, 1, 0, 0, &[0, 80]),
         state(64, 2, 0, 0, &[0, 16, 16, 32]),
         state(64, 1, 1, 65, &[0, 64]),
         state(64, 1, 2, 64, &[0, 64]),
-        [u32::MAX; 68],
+        [u32::MAX; TP_STREAM_WORDS],
     ];
     let mut buffer = [0; 80];
     let next = segment(16, true, &[1; 16]);
@@ -151,7 +174,7 @@ fn malformed_states_are_refused_everywhere() {
         );
         assert_eq!(stream.take(&mut buffer), Err(Refusal::MalformedState));
         assert!(!stream.is_complete());
-        assert!(stream.ranges().count() <= 32);
+        assert!(stream.ranges().count() <= MAX_TP_RANGES);
         assert_eq!((*stream.words(), buffer), (words, [0xee; 80]));
         // Clearing mends ranges and end, leaves the pairs, and leaves words alone that hold no stream.
         stream.clear();

@@ -20,22 +20,46 @@ ghost use mathlib.Core.Path.{_≡_};
 ghost use Prim.Native.Nat.{_≤_};
 ghost use lib.ListN.{length};
 
-// Room for a report of 64 bytes of payload.
+// Room for a report of 64 bytes of payload, and for one of 2,112.
 const ROOM: usize = 80;
+
+const MUCH_ROOM: usize = 2128;
 
 // A segment's payload: where it goes, how long it is, whether more follow.
 struct Piece {
-    offset: u8,
+    offset: u16,
     length: u8,
     more: bool,
 }
 
-// The byte of a TP word that has the offset, a multiple of 16, and the bit for more.
-fn low_byte(piece: Piece) -> u8 {
-    if piece.more {
-        return piece.offset / 16 * 16 + 1;
+// A segment with more to follow, and a final one.
+fn more(offset: u16, length: u8) -> Piece
+    ensures { λ r. ⌜ r .length ≡ length ⌝ }
+{
+    Piece {
+        offset,
+        length,
+        more: true,
     }
-    piece.offset / 16 * 16
+}
+
+fn last(offset: u16, length: u8) -> Piece
+    ensures { λ r. ⌜ r .length ≡ length ⌝ }
+{
+    Piece {
+        offset,
+        length,
+        more: false,
+    }
+}
+
+// The last byte of a TP word: the offset's low bits, of which four are not sent, and the bit for more.
+fn low_byte(piece: Piece) -> u8 {
+    let low = (piece.offset % 256 / 16 * 16) as u8;
+    if piece.more {
+        return low + 1;
+    }
+    low
 }
 
 // The bytes of a segment, with place for a payload of 16.
@@ -52,7 +76,7 @@ fn segment(piece: Piece) -> [u8; 36]
     s[14] = 0x22;
     s[16] = 0;
     s[17] = 0;
-    s[18] = 0;
+    s[18] = (piece.offset / 256) as u8;
     s[19] = low_byte(piece);
     s
 }
@@ -77,33 +101,100 @@ fn exported(said: Numbers, told: Answer) {
     }
 }
 
-// A verdict is printed; answers its number and values.
-fn judged(verdict: Verdict) -> Numbers {
+// A verdict's number and values.
+fn said_of(verdict: Verdict) -> Numbers {
     match verdict {
-        Verdict::Passed => {
-            text(b"accepted");
-            none(0)
-        }
-        Verdict::Refused(refusal) => {
-            let said = numbers_of(refusal);
-            refused(said);
-            said
-        }
+        Verdict::Passed => none(0),
+        Verdict::Refused(refusal) => numbers_of(refusal),
     }
 }
 
-// One segment comes, to the stream and to the exported one; prints it with the answer.
-fn comes(s: TpStream, buf: &mut [u8], words: &mut [u32], other: &mut [u8], piece: Piece) -> TpStream
+// The answer to a segment, in words.
+fn judged(said: Numbers) {
+    if said.number == 0 {
+        text(b"accepted");
+    } else {
+        refused(said);
+    }
+}
+
+// What is said of a segment that came, here and by the exported function, and the stream after it.
+struct Came {
+    said: Numbers,
+    told: Answer,
+    stream: TpStream,
+}
+
+// One segment comes, to the stream and to the exported one.
+fn consumed(s: TpStream, buf: &mut [u8], words: &mut [u32], other: &mut [u8], piece: Piece) -> Came
     requires { ⌜ piece .length ≤ 16 ⌝ }
 {
-    describe(piece);
     let bytes = segment(piece);
     let n = 20 + piece.length as usize;
     let step = tp_stream::consume(s, &bytes[..n], buf);
     let answer = step.answer;
-    exported(judged(answer), viaductle_consume(words, &bytes[..n], other));
+    let stream = step.stream;
+    Came {
+        said: said_of(answer),
+        told: viaductle_consume(words, &bytes[..n], other),
+        stream,
+    }
+}
+
+// One segment comes; prints it with the answer.
+fn comes(s: TpStream, buf: &mut [u8], words: &mut [u32], other: &mut [u8], piece: Piece) -> TpStream
+    requires { ⌜ piece .length ≤ 16 ⌝ }
+{
+    describe(piece);
+    let came = consumed(s, buf, words, other, piece);
+    let said = came.said;
+    judged(said);
+    let told = came.told;
+    exported(said, told);
     text(b"; ");
-    step.stream
+    came.stream
+}
+
+// Segments of 16 bytes with gaps of 16 between them, in words.
+fn describe_apart(first: u16, segments: u16) {
+    number(segments as usize);
+    text(b" of 16 bytes at ");
+    number(first as usize);
+    text(b" and every 32 bytes, more follow: ");
+}
+
+// So many segments of 16 bytes come, with gaps of 16 between them, the first at `first`; prints whether all are accepted.
+fn come_apart(
+    s: TpStream,
+    buf: &mut [u8],
+    words: &mut [u32],
+    other: &mut [u8],
+    first: u16,
+    segments: u16,
+) -> TpStream
+    requires { ⌜ (first ≤ 16) × (segments ≤ 64) ⌝ }
+{
+    describe_apart(first, segments);
+    let mut stream = s;
+    let mut all = true;
+    let mut i: u16 = 0;
+    while i < segments {
+        let came = consumed(stream, buf, words, other, more(first + 32 * i, 16));
+        i += 1;
+        stream = came.stream;
+        let said = came.said;
+        if said.number != 0 {
+            all = false;
+        }
+        let told = came.told;
+        exported(said, told);
+    }
+    if all {
+        text(b"all accepted; ");
+    } else {
+        text(b"not all accepted; ");
+    }
+    stream
 }
 
 // The length field of a report, or 0 where that has no whole header.
@@ -171,25 +262,29 @@ fn two(limit: u32, a: Piece, b: Piece)
     taken(t, &mut buf, &words, &mut other);
 }
 
-// A segment with more to follow, and a final one.
-fn more(offset: u8, length: u8) -> Piece
-    ensures { λ r. ⌜ r .length ≡ length ⌝ }
-{
-    Piece {
-        offset,
-        length,
-        more: true,
-    }
+// 64 ranges are held: one more gets 35; one that joins two of them is accepted, and then the one more is.
+fn full() {
+    let mut buf = [0u8; MUCH_ROOM];
+    let mut other = [0u8; MUCH_ROOM];
+    let mut words = [0u32; WORDS];
+    viaductle_begin(&mut words, 2112);
+    let s = come_apart(fresh(2112), &mut buf, &mut words, &mut other, 0, 64);
+    let t = comes(s, &mut buf, &mut words, &mut other, more(2048, 16));
+    let u = comes(t, &mut buf, &mut words, &mut other, more(16, 16));
+    let v = comes(u, &mut buf, &mut words, &mut other, more(2048, 16));
+    taken(v, &mut buf, &words, &mut other);
 }
 
-fn last(offset: u8, length: u8) -> Piece
-    ensures { λ r. ⌜ r .length ≡ length ⌝ }
-{
-    Piece {
-        offset,
-        length,
-        more: false,
-    }
+// Every second of 128 segments, and then the others: complete.
+fn odd_even() {
+    let mut buf = [0u8; MUCH_ROOM];
+    let mut other = [0u8; MUCH_ROOM];
+    let mut words = [0u32; WORDS];
+    viaductle_begin(&mut words, 2112);
+    let s = come_apart(fresh(2112), &mut buf, &mut words, &mut other, 0, 64);
+    let t = comes(s, &mut buf, &mut words, &mut other, last(2032, 16));
+    let u = come_apart(t, &mut buf, &mut words, &mut other, 16, 63);
+    taken(u, &mut buf, &words, &mut other);
 }
 
 fn main() {
@@ -206,4 +301,6 @@ fn main() {
     // Limit 32: empty at 32 accepted, at 48 31.
     one(32, last(32, 0));
     one(32, last(48, 0));
+    full();
+    odd_even();
 }

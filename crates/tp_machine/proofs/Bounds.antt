@@ -6,7 +6,20 @@ use Rattle.tp_machine.specs.Segments.{tp-type, is-segment, offset, more,
 use Rattle.tp_machine.specs.Ranges.{any, touch, hull-of, keep, grow, joined, some-touch}
 use Rattle.tp_machine.specs.Machine.{bad-range, bad-state, judged, after, step, begun, begin, fed}
 use Rattle.tp_machine.specs.Taking.{complete, ready, taking}
-use Rattle.tp_machine.specs.Bounds.{Bounds}
+use Rattle.tp_machine.specs.Bounds.{Filled, Full, OddEven, Bounds}
+
+-- how many ranges are held: each by itself, since a declaration has so many steps
+filled : Filled
+unfolding be16 be32 at16 at32 refuse_when_else_ given tp-type is-segment offset more payload without-tp header pasted written any touch hull-of keep grow joined some-touch bad-range bad-state judged after step begun begin fed complete ready taking
+filled = refl
+
+full : Full
+unfolding be16 be32 at16 at32 refuse_when_else_ given tp-type is-segment offset more payload without-tp header pasted written any touch hull-of keep grow joined some-touch bad-range bad-state judged after step begun begin fed complete ready taking
+full = refl
+
+odd-even : OddEven
+unfolding be16 be32 at16 at32 refuse_when_else_ given tp-type is-segment offset more payload without-tp header pasted written any touch hull-of keep grow joined some-touch bad-range bad-state judged after step begun begin fed complete ready taking
+odd-even = refl
 
 pub bounds : Bounds
 unfolding be16 be32 at16 at32 refuse_when_else_ given tp-type is-segment offset more payload without-tp header pasted written any touch hull-of keep grow joined some-touch bad-range bad-state judged after step begun begin fed complete ready taking
@@ -20,10 +33,12 @@ bounds = record {
     nineteen-bytes = (refl, tt);
   };
   ends-known = (refl, (refl, (refl, (refl, tt))));
-  holding = record { filled = refl; full = refl; joins-two = refl };
+  filled = filled;
+  full = full;
+  odd-even = odd-even;
   malformed = record {
-    thirty-two = refl;
-    thirty-three = refl;
+    sixty-four = refl;
+    sixty-five = refl;
     highest-limit = refl;
     past-highest = refl;
     end-at-limit = refl;

@@ -1,14 +1,14 @@
 -- Computed beside the marked case: the rules' unmarked cases of joining, and both sides of the lines that those cases leave open: what is a
 -- segment, another end, how many ranges are held, the highest limit, the buffer's length, each rule of 38, and which bytes a segment writes. The
 -- marked case is in specs/Cases.antt. Assumes nothing: these are definitions.
-use Prim.Native.Nat.{ℕ, zero, suc, _+_, _*_}
+use Prim.Native.Nat.{ℕ, zero, suc, _+_, _-_, _*_}
 use mathlib.Core.Path.{_≡_}
 use mathlib.Core.Bool.{Bool, true, false}
 use mathlib.Core.List.{List, [], _∷_, _++_}
 use lib.ListN.{length, take, drop, replicate}
 use Rattle.numbers.specs.Bytes.{be32}
 use Rattle.numbers.specs.Refusals.{refusal}
-use Rattle.numbers.specs.Answers.{accepted, refused, pass, All}
+use Rattle.numbers.specs.Answers.{accepted, refused, Verdict, pass, All}
 use Rattle.tp_machine.specs.declared.TpRange.{TpRange}
 use Rattle.tp_machine.specs.declared.TpEnd.{TpEnd}
 use Rattle.tp_machine.specs.declared.TpEnd.the-variants.{Unknown, Known}
@@ -16,7 +16,7 @@ use Rattle.tp_machine.specs.Segments.{is-segment}
 use Rattle.tp_machine.specs.Machine.{State, fresh, Out, bad-state, step, begun, begin, opened, fed}
 use Rattle.tp_machine.specs.Taking.{complete, taking}
 use Rattle.tp_machine.specs.Meaning.{range}
-use Rattle.tp_machine.specs.Cases.{_more-at_, _final-at_, Case, case, Hold}
+use Rattle.tp_machine.specs.Cases.{_more-at_, _final-at_, Case, case, seen, Hold}
 
 -- ---- the rules' unmarked cases
 
@@ -59,20 +59,41 @@ ends =
 
 -- ---- how many ranges are held
 
--- n segments of 16 bytes, no two of which touch: at 0, 32, 64, ..
-abbrev pub apart : ℕ → List (List ℕ)
-apart zero = []
-apart (suc n) = 16 more-at (n * 32) ∷ apart n
+-- n segments of 16 bytes, no two of which touch: at `first`, 32 further, 64 further, .., the last one first
+abbrev pub apart : (first n : ℕ) → List (List ℕ)
+apart first zero = []
+apart first (suc n) = 16 more-at (first + n * 32) ∷ apart first n
 
 -- a fresh stream of limit 2,112 over a buffer of nines, after segments
 abbrev pub after-all : List (List ℕ) → Out
 after-all ss = fed (opened 2112 (replicate 2128 9)) ss
 
--- so many ranges are held, and no more; one that joins two is accepted all the same
-pub record Holding (n : ℕ) : Type 0 where
-  pub filled : length (after-all (apart n) .state .ranges) ≡ n
-  pub full : after-all (apart (1 + n)) .answer ≡ refused (refusal 35 [])
-  pub joins-two : after-all (apart n ++ ((16 more-at 16) ∷ [])) .answer ≡ pass
+-- what a call answers, and how many ranges are held after it
+pub record Told : Type 0 where
+  pub answer : Verdict
+  pub held : ℕ
+
+abbrev pub told : Out → Told
+told o = record { answer = o .answer; held = length (o .state .ranges) }
+
+-- the same of each segment that comes
+abbrev pub told-each : Out → List (List ℕ) → List Told
+told-each o [] = []
+told-each o (seg ∷ segs) = told (step (o .state) seg (o .buffer)) ∷ told-each (step (o .state) seg (o .buffer)) segs
+
+-- 64 ranges are held
+abbrev pub Filled : Type 0
+Filled = told (after-all (apart 0 64)) ≡ record { answer = pass; held = 64 }
+
+-- and no more: a further one is refused; a segment that joins two of them is accepted, and then the further one is
+abbrev pub Full : Type 0
+Full =
+    told-each (after-all (apart 0 64)) (16 more-at 2048 ∷ 16 more-at 16 ∷ 16 more-at 2048 ∷ [])
+    ≡ record { answer = refused (refusal 35 []); held = 64 } ∷ record { answer = pass; held = 63 } ∷ record { answer = pass; held = 64 } ∷ []
+
+-- every second of 128 segments, and then the others: the report is complete
+abbrev pub OddEven : Type 0
+OddEven = seen (after-all (apart 0 64 ++ (16 final-at 2032 ∷ apart 16 63))) ≡ record { answer = pass; complete = true; length-field = 2056 }
 
 -- ---- 38: n ranges of no byte, apart; and states that hold these ranges
 
@@ -84,8 +105,8 @@ abbrev pub holding-these : (limit : ℕ) → List TpRange → TpEnd → State
 holding-these limit rs end = record { limit = limit; ranges = rs; end = end }
 
 pub record Malformed : Type 0 where
-  pub thirty-two : bad-state (holding-these 64 (spread 32) Unknown) ≡ false
-  pub thirty-three : bad-state (holding-these 64 (spread 33) Unknown) ≡ true
+  pub sixty-four : bad-state (holding-these 64 (spread 64) Unknown) ≡ false
+  pub sixty-five : bad-state (holding-these 64 (spread 65) Unknown) ≡ true
   pub highest-limit : bad-state (fresh 65520) ≡ false
   pub past-highest : bad-state (fresh 65521) ≡ true
   pub end-at-limit : bad-state (holding-these 64 [] (Known 64)) ≡ false
@@ -100,7 +121,9 @@ pub record Bounds : Type 0 where
   pub cases : Hold unmarked
   pub segment-lines : SegmentLines
   pub ends-known : Hold ends
-  pub holding : Holding 32
+  pub filled : Filled
+  pub full : Full
+  pub odd-even : OddEven
   pub malformed : Malformed
   -- the highest limit, and one more
   pub highest : (begun 65520 ≡ pass) × (begin 65520 ≡ fresh 65520)

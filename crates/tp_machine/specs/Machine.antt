@@ -15,7 +15,7 @@ use Rattle.tp_machine.specs.Ranges.{any, joined, some-touch}
 
 -- how many ranges are held at most, and the highest payload limit
 abbrev pub most : ℕ
-most = 32
+most = 64
 
 abbrev pub highest : ℕ
 highest = 65520

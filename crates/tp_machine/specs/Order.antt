@@ -22,9 +22,9 @@ pub record SegmentInOrder : Type 0 where
   pub 31-before-32 : step (fresh 0) (1 more-at 0) [] .answer gives 31 with (0 ∷ 1 ∷ 0 ∷ [])
   pub 32-before-33 : step (holding-these 1 [] (Known 0)) (1 more-at 0) [] .answer gives 32 with (0 ∷ 1 ∷ [])
   pub 33-before-34 : step (holding-these 1 [] (Known 0)) (1 final-at 0) [] .answer gives 33 with (0 ∷ 1 ∷ [])
-  -- 32 ranges are held, and none of them touches the new one
-  pub 34-before-35 : step (holding-these 48 (spread 32) Unknown) (0 final-at 48) [] .answer gives 34 with (64 ∷ [])
-  pub 35-last : step (holding-these 48 (spread 32) Unknown) (0 final-at 48) (replicate 64 0) .answer gives 35 with []
+  -- 64 ranges are held, and none of them touches the new one
+  pub 34-before-35 : step (holding-these 64 (spread 64) Unknown) (0 final-at 64) [] .answer gives 34 with (80 ∷ [])
+  pub 35-last : step (holding-these 64 (spread 64) Unknown) (0 final-at 64) (replicate 80 0) .answer gives 35 with []
 
 -- the report is taken: 38, 37, 34
 pub record TakingInOrder : Type 0 where

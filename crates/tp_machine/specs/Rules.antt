@@ -12,7 +12,7 @@ use Rattle.tp_machine.specs.declared.TpEnd.{TpEnd}
 use Rattle.tp_machine.specs.declared.TpEnd.the-variants.{Known}
 use Rattle.tp_machine.specs.Segments.{offset, more, size, end-of}
 use Rattle.tp_machine.specs.Ranges.{joined}
-use Rattle.tp_machine.specs.Machine.{State}
+use Rattle.tp_machine.specs.Machine.{most, State}
 use Rattle.tp_machine.specs.Taking.{end-held}
 use Rattle.tp_machine.specs.Meaning.{Segment, Good, Complete, range-of}
 
@@ -38,7 +38,7 @@ segment-rules p seg room =
     refusal 32 (offset seg ∷ size seg ∷ []) if (more seg ≡ true) × (size seg % 16 ≢ 0) else
     part (Conflict (p .end) (more seg) (end-of seg)) else
     refusal 34 ((16 + end-of seg) ∷ []) if room < 16 + end-of seg else
-    refusal 35 [] if 32 < length (joined (range-of seg) (p .ranges)) else
+    refusal 35 [] if most < length (joined (range-of seg) (p .ranges)) else
     accept
 
 -- the report is taken

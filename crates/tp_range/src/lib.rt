@@ -9,7 +9,7 @@ ghost use Rattle.tp_range.specs.Joining.{joined-in};
 use tp_machine::TpRange;
 
 // How many ranges are held at most.
-pub const MAX_RANGES: usize = 32;
+pub const MAX_RANGES: usize = 64;
 
 // What joining gives: the new array and how many it holds; or, where they would be too many, all as it was.
 pub struct Joined {

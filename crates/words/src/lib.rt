@@ -227,7 +227,7 @@ fn stream_words(refusal: Refusal, values: [u64; PLACES]) {
             values,
         ),
         Refusal::RangesFull => text(
-            b"too many gaps: 32 separate ranges are held, and this segment joins none of them",
+            b"too many gaps: 64 separate ranges are held, and this segment joins none of them",
         ),
         Refusal::LimitTooLarge(_) => told(
             b"a payload limit of %0d was asked for; at most 65520 is possible",
