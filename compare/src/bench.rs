@@ -448,7 +448,7 @@ fn size(payloads: &[&Vec<u8>]) -> String {
 #[cfg(test)]
 mod tests {
     use super::*;
-    use crate::calls::Settings;
+    use crate::calls::{Settings, MOST_RANGES};
     use crate::oracle;
 
     /// The strict setting changes no answer to a payload of the mix, so that its figures are of the same work and the check.
@@ -485,6 +485,7 @@ mod tests {
                 assert_eq!((300..=1340).contains(&option), name == "long keys");
             }
         }
-        assert_eq!(report_segments().len(), 48);
+        assert_eq!(report_segments(1392).len(), 48);
+        assert_eq!(report_segments(512).len(), 2 * MOST_RANGES);
     }
 }

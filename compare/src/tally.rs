@@ -50,8 +50,8 @@ pub struct Tally {
     pub by_settings: BTreeMap<(&'static str, Settings), [u64; 3]>,
     /// Payloads, messages and options parts that are refused by 23, by what the crate itself says of them.
     pub before: BTreeMap<u64, u64>,
-    /// Sequences by the most ranges that were held at once.
-    pub held: Counts,
+    /// Sequences by kind and the most ranges that were held at once: up to 8, up to 32, more but not all, as many as may be held.
+    pub held: BTreeMap<&'static str, [u64; 4]>,
     /// Answers that the crate has not, judged by the rules alone, by number.
     pub by_document: BTreeMap<u64, u64>,
     /// Inputs that fell outside what can be compared, by why.
@@ -95,15 +95,13 @@ impl Tally {
     }
 
     /// Counts a sequence by the most ranges that were held at once.
-    pub fn held(&mut self, most: usize) {
-        const FEWER: usize = MOST_RANGES - 1;
-        let name = match most {
-            0..=8 => "up to 8",
-            9..=32 => "9 to 32",
-            33..=FEWER => "33 and more, but not all",
-            _ => "as many as may be held",
-        };
-        self.held.add(name, 1);
+    pub fn held(&mut self, kind: &'static str, most: usize) {
+        self.held.entry(kind).or_default()[match most {
+            0..=8 => 0,
+            9..=32 => 1,
+            33..MOST_RANGES => 2,
+            _ => 3,
+        }] += 1;
     }
 
     pub fn document(&mut self, number: u64) {
@@ -137,7 +135,6 @@ impl Tally {
         for (mine, theirs) in [
             (&mut self.inputs, other.inputs),
             (&mut self.compared, other.compared),
-            (&mut self.held, other.held),
             (&mut self.left_out, other.left_out),
         ] {
             for (name, count) in theirs.0 {
@@ -150,6 +147,12 @@ impl Tally {
         self.faults.add(other.faults);
         for (under, counts) in other.by_settings {
             let mine = self.by_settings.entry(under).or_default();
+            for (sum, count) in mine.iter_mut().zip(counts) {
+                *sum += count;
+            }
+        }
+        for (kind, counts) in other.held {
+            let mine = self.held.entry(kind).or_default();
             for (sum, count) in mine.iter_mut().zip(counts) {
                 *sum += count;
             }
@@ -188,8 +191,11 @@ impl Tally {
         for (number, count) in &self.before {
             println!("  {count:>12}  {}", answer_name(*number));
         }
-        if !self.held.0.is_empty() {
-            self.held.print("sequences by the most ranges that were held at once");
+        if !self.held.is_empty() {
+            println!("the most ranges held at once: up to 8, up to 32, fewer than {MOST_RANGES}, {MOST_RANGES}:");
+        }
+        for (kind, [few, some, many, all]) in &self.held {
+            println!("  {few:>12} {some:>12} {many:>12} {all:>12}  {kind}");
         }
         println!("answers that the crate has not, compared with the rules alone:");
         for (number, count) in &self.by_document {

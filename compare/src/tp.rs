@@ -68,8 +68,8 @@ impl<'a, P: Calls> Tp<'a, P> {
 
     /// One sequence inside the rules' domain: the buffer has room for the limit. A segment that would make a range too many is not handed to
     /// the crate; 35 is due.
-    pub fn sequence(&mut self, sequence: &Sequence) {
-        self.tally.input("sequences of segments");
+    pub fn sequence(&mut self, kind: &'static str, sequence: &Sequence) {
+        self.tally.input(kind);
         let room = 16 + sequence.limit as usize + sequence.spare;
         let mut lent = Lent::new(room);
         let mut stream = Stream::begin(sequence.limit);
@@ -87,7 +87,7 @@ impl<'a, P: Calls> Tp<'a, P> {
                 return;
             }
         }
-        self.tally.held(most);
+        self.tally.held(kind, most);
     }
 
     /// One step; answers how many ranges the crate holds after it.

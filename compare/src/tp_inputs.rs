@@ -187,7 +187,11 @@ fn large(r: &mut Random, steps: &mut Vec<Step>) {
     match r.below(4) {
         0 => {}
         1 => pieces.reverse(),
-        2 => pieces = every_second(&pieces, 0).chain(every_second(&pieces, 1)).collect(),
+        2 => {
+            pieces = every_second(&pieces, 0)
+                .chain(every_second(&pieces, 1))
+                .collect()
+        }
         _ => r.shuffle(&mut pieces),
     }
     for at in pieces {

@@ -196,23 +196,28 @@ fn one_foreign<P: Calls>(sd: &mut Sd<P>, seed: u64, number: u64, out: &mut Vec<u
     sd.short_message(&out[..short]);
 }
 
+/// What sequences are counted as.
+const SEQUENCES: &str = "sequences of segments";
+const ODD_EVEN: &str = "reports in odd-even order";
+
 /// A seeded sequence inside the comparison domain.
 pub fn one_sequence<P: Calls>(tp: &mut Tp<P>, seed: u64, number: u64) {
     let mut r = Random::of(seed, family::SEQUENCE, number);
-    tp.sequence(&tp_inputs::sequence(&mut r));
+    tp.sequence(SEQUENCES, &tp_inputs::sequence(&mut r));
 }
 
-/// A report in odd-even order, of every number of segments in turn; one in eight is up to 64 KB long.
+/// A report in odd-even order, of every number of segments in turn, the most first; one in eight is up to 64 KB long.
 fn one_odd_even<P: Calls>(tp: &mut Tp<P>, seed: u64, number: u64) {
     let mut r = Random::of(seed, family::ODD_EVEN, number);
-    let segments = 1 + number as usize % tp_inputs::MOST_ODD_EVEN;
-    let most = MOST_LIMIT as usize / segments / 16;
+    let most = tp_inputs::MOST_ODD_EVEN;
+    let segments = most - number as usize % most;
     let sixteens = if r.once_in(8) {
-        r.between(1, most.min(87))
+        r.between(1, (MOST_LIMIT as usize / segments / 16).min(87))
     } else {
         r.between(1, 3)
     };
-    tp.sequence(&tp_inputs::odd_even(&mut r, segments, 16 * sixteens));
+    let sequence = tp_inputs::odd_even(&mut r, segments, 16 * sixteens);
+    tp.sequence(ODD_EVEN, &sequence);
 }
 
 /// A sequence outside it, where the rules alone say what is due.
@@ -296,7 +301,7 @@ fn all_sequences<P: Calls>(port: &P, plan: &Plan) -> Tally {
         whole.add(spread(plan.threads, count, |block| {
             let mut tp = Tp::new(port);
             for number in block {
-                tp.sequence(&tp_inputs::nth_sequence(length, number as usize));
+                tp.sequence(SEQUENCES, &tp_inputs::nth_sequence(length, number as usize));
             }
             tp.tally
         }));
@@ -308,10 +313,8 @@ fn all_sequences<P: Calls>(port: &P, plan: &Plan) -> Tally {
         for number in block {
             let number = number as usize;
             let pieces = tp_inputs::ORDERED[number / orders.len()];
-            tp.sequence(&tp_inputs::ordered_sequence(
-                pieces,
-                &orders[number % orders.len()],
-            ));
+            let order = &orders[number % orders.len()];
+            tp.sequence(SEQUENCES, &tp_inputs::ordered_sequence(pieces, order));
         }
         tp.tally
     }));
@@ -421,6 +424,9 @@ mod tests {
         }
         for number in [21, 22, 23, 30, 34, 35, 36, 38] {
             assert!(tally.by_document.contains_key(&number), "{number}");
+        }
+        for (kind, often) in [(SEQUENCES, 20), (ODD_EVEN, 1)] {
+            assert!(tally.held[kind][3] >= often, "{kind}: {:?}", tally.held);
         }
         for cause in Cause::PLAIN.into_iter().chain(Cause::STRICT) {
             let counts = tally.faults.0[&cause];
