@@ -206,11 +206,16 @@ pub fn one_sequence<P: Calls>(tp: &mut Tp<P>, seed: u64, number: u64) {
     tp.sequence(SEQUENCES, &tp_inputs::sequence(&mut r));
 }
 
-/// A report in odd-even order, of every number of segments in turn, the most first; one in eight is up to 64 KB long.
+/// A report in odd-even order: every number of segments in turn, the most first, and every second time one of the five highest; one in eight is up to
+/// 64 KB long.
 fn one_odd_even<P: Calls>(tp: &mut Tp<P>, seed: u64, number: u64) {
     let mut r = Random::of(seed, family::ODD_EVEN, number);
     let most = tp_inputs::MOST_ODD_EVEN;
-    let segments = most - number as usize % most;
+    let turn = number as usize / 2;
+    let segments = match number % 2 {
+        0 => most - turn % 5,
+        _ => most - turn % most,
+    };
     let sixteens = if r.once_in(8) {
         r.between(1, (MOST_LIMIT as usize / segments / 16).min(87))
     } else {

@@ -6,12 +6,12 @@ use Rattle.tp_machine.specs.Segments.{tp-type, is-segment, offset, more,
 use Rattle.tp_machine.specs.Ranges.{any, touch, hull-of, keep, grow, joined, some-touch}
 use Rattle.tp_machine.specs.Machine.{bad-range, bad-state, judged, after, step, begun, begin, fed}
 use Rattle.tp_machine.specs.Taking.{complete, ready, taking}
-use Rattle.tp_machine.specs.Bounds.{Filled, Full, OddEven, Bounds}
+use Rattle.tp_machine.specs.Bounds.{Fills, Full, OddEven, Bounds}
 
--- how many ranges are held: each by itself, since a declaration has so many steps
-filled : Filled
+-- how many ranges are held; each by itself, since what one declaration may compute has a bound
+fills : Fills
 unfolding be16 be32 at16 at32 refuse_when_else_ given tp-type is-segment offset more payload without-tp header pasted written any touch hull-of keep grow joined some-touch bad-range bad-state judged after step begun begin fed complete ready taking
-filled = refl
+fills = refl
 
 full : Full
 unfolding be16 be32 at16 at32 refuse_when_else_ given tp-type is-segment offset more payload without-tp header pasted written any touch hull-of keep grow joined some-touch bad-range bad-state judged after step begun begin fed complete ready taking
@@ -33,7 +33,7 @@ bounds = record {
     nineteen-bytes = (refl, tt);
   };
   ends-known = (refl, (refl, (refl, (refl, tt))));
-  filled = filled;
+  fills = fills;
   full = full;
   odd-even = odd-even;
   malformed = record {

@@ -82,8 +82,8 @@ told-each o [] = []
 told-each o (seg ∷ segs) = told (step (o .state) seg (o .buffer)) ∷ told-each (step (o .state) seg (o .buffer)) segs
 
 -- 64 ranges are held
-abbrev pub Filled : Type 0
-Filled = told (after-all (apart 0 64)) ≡ record { answer = pass; held = 64 }
+abbrev pub Fills : Type 0
+Fills = told (after-all (apart 0 64)) ≡ record { answer = pass; held = 64 }
 
 -- and no more: a further one is refused; a segment that joins two of them is accepted, and then the further one is
 abbrev pub Full : Type 0
@@ -121,7 +121,7 @@ pub record Bounds : Type 0 where
   pub cases : Hold unmarked
   pub segment-lines : SegmentLines
   pub ends-known : Hold ends
-  pub filled : Filled
+  pub fills : Fills
   pub full : Full
   pub odd-even : OddEven
   pub malformed : Malformed
