@@ -10,7 +10,7 @@ pub const MAX_TP_PAYLOAD_LEN: u32 = ffi::MAX_LIMIT;
 /// How many ranges a stream holds at most: parts of the report that have arrived, with gaps between them.
 pub const MAX_TP_RANGES: usize = ffi::MAX_RANGES;
 
-/// The words of a stream's state.
+/// The words of a stream's state: four, and two for each of [`MAX_TP_RANGES`] ranges.
 pub const TP_STREAM_WORDS: usize = ffi::WORDS;
 
 /// A part of the report that has arrived: offsets into its payload, the end not included.
