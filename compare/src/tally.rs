@@ -8,6 +8,9 @@ use std::fmt::{Debug, Write};
 /// How many differences are kept with their text.
 const KEPT: usize = 20;
 
+/// Where sequences are told apart by the most ranges that were held at once.
+const HELD: [usize; 3] = [8, MOST_RANGES / 2, MOST_RANGES - 1];
+
 /// Counts by name. Names are few and the same literals come again, so that a look at the pointers finds most at once.
 #[derive(Default)]
 pub struct Counts(Vec<(&'static str, u64)>);
@@ -50,7 +53,7 @@ pub struct Tally {
     pub by_settings: BTreeMap<(&'static str, Settings), [u64; 3]>,
     /// Payloads, messages and options parts that are refused by 23, by what the crate itself says of them.
     pub before: BTreeMap<u64, u64>,
-    /// Sequences by kind and the most ranges that were held at once: up to 8, up to 32, more but not all, as many as may be held.
+    /// Sequences by kind and the most ranges that were held at once: up to each of `HELD`, and as many as may be held.
     pub held: BTreeMap<&'static str, [u64; 4]>,
     /// Answers that the crate has not, judged by the rules alone, by number.
     pub by_document: BTreeMap<u64, u64>,
@@ -96,12 +99,8 @@ impl Tally {
 
     /// Counts a sequence by the most ranges that were held at once.
     pub fn held(&mut self, kind: &'static str, most: usize) {
-        self.held.entry(kind).or_default()[match most {
-            0..=8 => 0,
-            9..=32 => 1,
-            33..MOST_RANGES => 2,
-            _ => 3,
-        }] += 1;
+        let place = HELD.iter().filter(|border| most > **border).count();
+        self.held.entry(kind).or_default()[place] += 1;
     }
 
     pub fn document(&mut self, number: u64) {
@@ -192,7 +191,10 @@ impl Tally {
             println!("  {count:>12}  {}", answer_name(*number));
         }
         if !self.held.is_empty() {
-            println!("the most ranges held at once: up to 8, up to 32, fewer than {MOST_RANGES}, {MOST_RANGES}:");
+            let [few, some, many] = HELD;
+            println!(
+                "the most ranges held at once: up to {few}, {some}, {many}, and {MOST_RANGES}:"
+            );
         }
         for (kind, [few, some, many, all]) in &self.held {
             println!("  {few:>12} {some:>12} {many:>12} {all:>12}  {kind}");
