@@ -1,5 +1,5 @@
-// A case of service discovery on a line, for the programs that run the rules' cases: what was read, and the answer with its number and values.
-// Where an exported function told something else than the public one, the line says so.
+// A case on a line, for the programs that run the rules' cases: what was read, and the answer with its number and values. Where an exported function
+// told something else than the public one, the line says so.
 use hub::answers::Answer;
 use hub::payload::viaductle_read;
 use hub::payload::viaductle_read_message;
@@ -48,23 +48,28 @@ pub fn word(settings: Settings) -> u32 {
 }
 
 // Says so where an exported function told something else.
-fn exported(said: Numbers, told: Answer) {
+pub fn exported(said: Numbers, told: Answer) {
     let values = told.values;
     if !replay::same(said, told.number, values) {
         text(b", but C is told something else");
     }
 }
 
-// A line: what was read, and that it was accepted or refused.
-pub fn answer(name: &[u8], said: Numbers, told: Answer) {
-    text(name);
-    text(b": ");
+// That it was accepted or refused.
+pub fn judged(said: Numbers, told: Answer) {
     if said.number == 0 {
         text(b"accepted");
     } else {
         refused(said);
     }
     exported(said, told);
+}
+
+// A line: what was read, and that it was accepted or refused.
+pub fn answer(name: &[u8], said: Numbers, told: Answer) {
+    text(name);
+    text(b": ");
+    judged(said, told);
     text(b"\n");
 }
 

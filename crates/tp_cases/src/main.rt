@@ -2,12 +2,13 @@
 // line: what came, the answer to it, and at the end the report. The file stdout holds what the rules say; where an exported function told
 // something else, the line says so.
 use big_endian::be32;
+use case_lines::exported;
+use case_lines::judged;
 use hub::answers::Answer;
 use hub::tp::viaductle_begin;
 use hub::tp::viaductle_consume;
 use hub::tp::viaductle_take;
 use print::number;
-use print::refused;
 use print::text;
 use refusal::Count;
 use refusal::Numbers;
@@ -93,28 +94,11 @@ fn describe(piece: Piece) {
     }
 }
 
-// Says so where an exported function told something else.
-fn exported(said: Numbers, told: Answer) {
-    let values = told.values;
-    if !replay::same(said, told.number, values) {
-        text(b", but C is told something else");
-    }
-}
-
 // A verdict's number and values.
 fn said_of(verdict: Verdict) -> Numbers {
     match verdict {
         Verdict::Passed => none(0),
         Verdict::Refused(refusal) => numbers_of(refusal),
-    }
-}
-
-// The answer to a segment, in words.
-fn judged(said: Numbers) {
-    if said.number == 0 {
-        text(b"accepted");
-    } else {
-        refused(said);
     }
 }
 
@@ -148,9 +132,8 @@ fn comes(s: TpStream, buf: &mut [u8], words: &mut [u32], other: &mut [u8], piece
     describe(piece);
     let came = consumed(s, buf, words, other, piece);
     let said = came.said;
-    judged(said);
     let told = came.told;
-    exported(said, told);
+    judged(said, told);
     text(b"; ");
     came.stream
 }
@@ -220,19 +203,18 @@ fn taken(s: TpStream, buf: &mut [u8], words: &[u32], other: &mut [u8]) {
         }
         Count::Refused(refusal) => {
             text(b"taking: ");
-            let said = numbers_of(refusal);
-            refused(said);
-            exported(said, told);
+            judged(numbers_of(refusal), told);
         }
     }
     text(b"\n");
 }
 
-// A fresh stream; prints its limit.
-fn fresh(limit: u32) -> TpStream {
+// A stream begins, and the exported one; prints its limit.
+fn begun(limit: u32, words: &mut [u32]) -> TpStream {
     text(b"limit ");
     number(limit as usize);
     text(b"; ");
+    viaductle_begin(words, limit);
     let step = tp_stream::begin(limit);
     step.stream
 }
@@ -244,8 +226,8 @@ fn one(limit: u32, a: Piece)
     let mut buf = [0u8; ROOM];
     let mut other = [0u8; ROOM];
     let mut words = [0u32; WORDS];
-    viaductle_begin(&mut words, limit);
-    let s = comes(fresh(limit), &mut buf, &mut words, &mut other, a);
+    let fresh = begun(limit, &mut words);
+    let s = comes(fresh, &mut buf, &mut words, &mut other, a);
     taken(s, &mut buf, &words, &mut other);
 }
 
@@ -256,8 +238,8 @@ fn two(limit: u32, a: Piece, b: Piece)
     let mut buf = [0u8; ROOM];
     let mut other = [0u8; ROOM];
     let mut words = [0u32; WORDS];
-    viaductle_begin(&mut words, limit);
-    let s = comes(fresh(limit), &mut buf, &mut words, &mut other, a);
+    let fresh = begun(limit, &mut words);
+    let s = comes(fresh, &mut buf, &mut words, &mut other, a);
     let t = comes(s, &mut buf, &mut words, &mut other, b);
     taken(t, &mut buf, &words, &mut other);
 }
@@ -267,8 +249,8 @@ fn full() {
     let mut buf = [0u8; MUCH_ROOM];
     let mut other = [0u8; MUCH_ROOM];
     let mut words = [0u32; WORDS];
-    viaductle_begin(&mut words, 2112);
-    let s = come_apart(fresh(2112), &mut buf, &mut words, &mut other, 0, 64);
+    let fresh = begun(2112, &mut words);
+    let s = come_apart(fresh, &mut buf, &mut words, &mut other, 0, 64);
     let t = comes(s, &mut buf, &mut words, &mut other, more(2048, 16));
     let u = comes(t, &mut buf, &mut words, &mut other, more(16, 16));
     let v = comes(u, &mut buf, &mut words, &mut other, more(2048, 16));
@@ -280,8 +262,8 @@ fn odd_even() {
     let mut buf = [0u8; MUCH_ROOM];
     let mut other = [0u8; MUCH_ROOM];
     let mut words = [0u32; WORDS];
-    viaductle_begin(&mut words, 2112);
-    let s = come_apart(fresh(2112), &mut buf, &mut words, &mut other, 0, 64);
+    let fresh = begun(2112, &mut words);
+    let s = come_apart(fresh, &mut buf, &mut words, &mut other, 0, 64);
     let t = comes(s, &mut buf, &mut words, &mut other, last(2032, 16));
     let u = come_apart(t, &mut buf, &mut words, &mut other, 16, 63);
     taken(u, &mut buf, &words, &mut other);

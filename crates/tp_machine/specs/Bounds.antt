@@ -1,7 +1,7 @@
 -- Computed beside the marked case: the rules' unmarked cases of joining, and both sides of the lines that those cases leave open: what is a
 -- segment, another end, how many ranges are held, the highest limit, the buffer's length, each rule of 38, and which bytes a segment writes. The
 -- marked case is in specs/Cases.antt. Assumes nothing: these are definitions.
-use Prim.Native.Nat.{ℕ, zero, suc, _+_, _-_, _*_}
+use Prim.Native.Nat.{ℕ, zero, suc, _+_, _*_}
 use mathlib.Core.Path.{_≡_}
 use mathlib.Core.Bool.{Bool, true, false}
 use mathlib.Core.List.{List, [], _∷_, _++_}
