@@ -95,8 +95,8 @@ fn size_words(refusal: Refusal, values: [u64; PLACES]) {
     }
 }
 
-// Its options and entries, and an index: 7 to 13, and 23.
-fn part_words(refusal: Refusal, values: [u64; PLACES]) {
+// An option: 7 to 10, and 23.
+fn option_words(refusal: Refusal, values: [u64; PLACES]) {
     match refusal {
         Refusal::OptionLength {
             needed: _,
@@ -126,6 +126,13 @@ fn part_words(refusal: Refusal, values: [u64; PLACES]) {
             b"the transport protocol is %02, by byte %1d of the options; the strict setting takes 0x06 (TCP) and 0x11 (UDP), for multicast 0x11 alone",
             values,
         ),
+        _ => {}
+    }
+}
+
+// An entry, and an index: 11 to 13.
+fn entry_words(refusal: Refusal, values: [u64; PLACES]) {
+    match refusal {
         Refusal::UnknownEntry(_) => told(
             b"an entry has the unknown type %02; known are 0x00, 0x01, 0x06 and 0x07",
             values,
@@ -265,15 +272,15 @@ fn words(refusal: Refusal, values: [u64; PLACES]) {
         | Refusal::WrongProtocol {
             protocol: _,
             place: _,
-        }
-        | Refusal::UnknownEntry(_)
+        } => option_words(refusal, values),
+        Refusal::UnknownEntry(_)
         | Refusal::RunOutOfBounds {
             run: _,
             start: _,
             count: _,
             options: _,
         }
-        | Refusal::IndexTooLarge(_) => part_words(refusal, values),
+        | Refusal::IndexTooLarge(_) => entry_words(refusal, values),
         Refusal::MessageId(_)
         | Refusal::ClientId(_)
         | Refusal::SessionZero
