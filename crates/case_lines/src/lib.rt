@@ -18,12 +18,7 @@ use sd_payload::read_message;
 use sd_payload::read_payload;
 ghost use Prim.Native.Nat.{_≤_};
 
-// The settings of a case: none is on, or one of the two.
-pub const OFF: Settings = Settings {
-    discard_unknown_option: false,
-    strict: false,
-};
-
+// The settings of a case where one of the two is on.
 pub const DISCARDING: Settings = Settings {
     discard_unknown_option: true,
     strict: false,

@@ -1,13 +1,13 @@
 // The place that a refusal of an option tells. A payload, an index and a message count it from the first byte of the options, whether it is the first
 // option or stands behind another one; an option that is read alone, by the cursor too, from its own first byte.
 use crate::readings::by_all;
-use case_lines::OFF;
 use case_lines::payload;
+use sd_option::PLAIN;
 
 // A payload of no entries with an option, twelve bytes and the option; and one with another option of four bytes in front of it.
 fn case(name: &[u8], first: &[u8], later: &[u8]) {
-    payload(name, first, OFF);
-    payload(b"the same behind another option", later, OFF);
+    payload(name, first, PLAIN);
+    payload(b"the same behind another option", later, PLAIN);
 }
 
 // Each error of a string: of its end and its items' lengths, and of its keys.
@@ -92,6 +92,6 @@ pub(crate) fn all() {
     by_all(
         b"byte behind the terminator of an option alone",
         b"\xff\xff\x81\x00\x00\x00\x00\x20\x00\x00\x00\x01\x01\x01\x02\x00\x80\x00\x00\x00\x00\x00\x00\x00\x00\x00\x00\x0c\x00\x01\x77\x80\x00\x05\x01\x00\x01\x41\x00\x00",
-        OFF,
+        PLAIN,
     );
 }

@@ -1,10 +1,10 @@
 // The transport protocol of an option with an address. Under the strict setting it is TCP or UDP, and UDP alone for multicast; without it any is
 // accepted. 23 comes where the option stands, behind what its own length breaks and before what later options, unknown ones and entries break.
 use crate::readings::by_all;
-use case_lines::OFF;
 use case_lines::STRICT;
 use case_lines::payload;
 use print::named_code;
+use sd_option::PLAIN;
 
 // A payload of no entries with an IPv4 option of this type and protocol, and with an IPv6 option.
 fn ipv4(code: u8, protocol: u8) -> [u8; 24] {
@@ -30,7 +30,7 @@ fn both(code: u8, protocol: u8, bytes: &[u8]) {
     named_code(b"option ", code as u64, 2);
     named_code(b" with protocol ", protocol as u64, 2);
     payload(b", strict", bytes, STRICT);
-    payload(b"the same, not strict", bytes, OFF);
+    payload(b"the same, not strict", bytes, PLAIN);
 }
 
 fn of_ipv4(code: u8, protocol: u8) {

@@ -2,12 +2,12 @@
 // line: what was read, and the answer with its number and values. The file stdout holds what the rules say; a string's error is told by its
 // place among the six. Where an exported function told something else, the line says so.
 use case_lines::DISCARDING;
-use case_lines::OFF;
 use case_lines::answer;
 use case_lines::payload;
 use refusal::Verdict;
 use refusal::none;
 use refusal::numbers_of;
+use sd_option::PLAIN;
 
 mod cases; // cases.rt: the bytes of the cases
 mod parts; // parts.rt: what is told of a payload's parts
@@ -24,55 +24,55 @@ fn string(name: &[u8], s: &[u8]) {
 
 // The cases of sizes: of the whole, and of its parts.
 fn sizes() {
-    payload(b"payload, 12 zero bytes", &[0; 12], OFF);
-    payload(b"payload, 11 zero bytes", &[0; 11], OFF);
-    payload(b"payload, 13 zero bytes", &[0; 13], OFF);
+    payload(b"payload, 12 zero bytes", &[0; 12], PLAIN);
+    payload(b"payload, 11 zero bytes", &[0; 11], PLAIN);
+    payload(b"payload, 13 zero bytes", &[0; 13], PLAIN);
 }
 
 fn sizes_of_parts() {
     payload(
         b"payload, 12 bytes with entries length 17",
         &cases::twelve(17),
-        OFF,
+        PLAIN,
     );
     payload(
         b"payload, 12 bytes with entries length 16",
         &cases::twelve(16),
-        OFF,
+        PLAIN,
     );
     payload(
         b"payload, 28 bytes with entries length 16 and options length 1388",
         &cases::long_options(),
-        OFF,
+        PLAIN,
     );
 }
 
 // The cases of a whole payload.
 fn whole() {
-    payload(b"payload, the rules' whole one", &cases::WHOLE, OFF);
+    payload(b"payload, the rules' whole one", &cases::WHOLE, PLAIN);
     parts::parts(&cases::WHOLE);
     payload(
         b"the same with run 1 from 1",
         &cases::whole_with(1, 0x10),
-        OFF,
+        PLAIN,
     );
     payload(
         b"the same with empty runs, run 1 from 200",
         &cases::whole_with(200, 0),
-        OFF,
+        PLAIN,
     );
 }
 
 // The cases of unknown options.
 fn unknown() {
-    payload(b"option 00017780", &cases::unknown(0x80), OFF);
-    payload(b"option 00017700", &cases::unknown(0), OFF);
+    payload(b"option 00017780", &cases::unknown(0x80), PLAIN);
+    payload(b"option 00017700", &cases::unknown(0), PLAIN);
     payload(
         b"option 00017700 when discarding",
         &cases::unknown(0),
         DISCARDING,
     );
-    payload(b"347 options of four bytes", &cases::many(), OFF);
+    payload(b"347 options of four bytes", &cases::many(), PLAIN);
 }
 
 // The cases of configuration strings: where they end, their keys, and what does not fit.

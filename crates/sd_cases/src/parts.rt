@@ -1,5 +1,4 @@
 // What is told of the parts of a payload: its first entry, and the first option of that entry's run 1.
-use case_lines::OFF;
 use print::named_code;
 use print::number;
 use print::refused;
@@ -16,6 +15,7 @@ use sd_field::read_fields;
 use sd_index::FoundAnswer;
 use sd_index::RunCursor;
 use sd_index::SLOTS;
+use sd_option::PLAIN;
 use sd_payload::PayloadAnswer;
 
 // The head of an entry.
@@ -135,7 +135,7 @@ fn found(options: &[u8], answer: FoundAnswer) {
     match answer {
         FoundAnswer::Good(f) => {
             let offset = f.offset;
-            let fields = read_fields(OFF, sd_index::option_at(options, offset));
+            let fields = read_fields(PLAIN, sd_index::option_at(options, offset));
             match fields {
                 FieldsAnswer::Good { option: o, size: _ } => option(o),
                 FieldsAnswer::Refused(refusal) => refused(numbers_of(refusal)),
@@ -149,7 +149,7 @@ fn found(options: &[u8], answer: FoundAnswer) {
 // The first entry of a payload, and the first option of its run 1.
 pub(crate) fn parts(payload: &[u8]) {
     let mut table = [0u16; SLOTS];
-    let answer = sd_payload::read_payload(OFF, payload, &mut table);
+    let answer = sd_payload::read_payload(PLAIN, payload, &mut table);
     let PayloadAnswer::Good(p) = answer else {
         return;
     };
