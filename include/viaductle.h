@@ -68,7 +68,7 @@ enum viaductle_number {
     VIADUCTLE_NOT_A_SEGMENT = 30,            /* none */
     VIADUCTLE_SEGMENT_TOO_BIG = 31,          /* offset, length, limit */
     VIADUCTLE_UNALIGNED = 32,                /* offset, length: more follows, and the length is not a multiple of 16 */
-    VIADUCTLE_CONFLICTING_END = 33,          /* previous end, new end */
+    VIADUCTLE_CONFLICTING_END = 33,          /* previous end (or the greatest end held), new end */
     VIADUCTLE_BUFFER_TOO_SHORT = 34,         /* length needed */
     VIADUCTLE_RANGES_FULL = 35,              /* none: more than VIADUCTLE_MAX_RANGES after joining */
     VIADUCTLE_LIMIT_TOO_LARGE = 36,          /* limit: above 65,520 */
@@ -312,7 +312,8 @@ viaductle_answer viaductle_begin(uint32_t *state, size_t words, uint32_t limit);
 /* One segment comes: 16 header bytes, 4 TP bytes and its payload, as on the wire.
  *   0: its range is joined, and its payload stands in the buffer at 16 plus its offset, over what was there; of the one with offset 0 the header
  *      stands at 0, without the TP bit (0x20) of its type.
- *   38, 30, 31, 32, 33, 34, 35; then state and buffer are as they were. */
+ *   38, 30, 31, 32, 33, 34, 35; then state and buffer are as they were. 33: values[1] is where this segment ends, and values[0] the end that is
+ *      known, where it passes that or is a final one with another end; else how far the data held reaches, where a final one ends below that. */
 viaductle_answer viaductle_consume(uint32_t *state, size_t words, const uint8_t *segment, size_t len, uint8_t *buffer, size_t room);
 
 /* Whether all segments are there. 0: values[0] = 1 or 0. A malformed state, and one of fewer words, is not complete. */

@@ -6,6 +6,7 @@
 #[cfg(any(feature = "port", test))]
 mod bench;
 mod calls;
+mod ends;
 mod inputs;
 mod oracle;
 mod oracle_tp;

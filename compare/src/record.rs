@@ -1,6 +1,7 @@
 //! Writes the crate's answers to seeded inputs, for replay by programs that have no Rust. FORMAT.md has the layout.
 
 use crate::calls::{Answer, Settings, MOST_RANGES, SLOTS};
+use crate::ends;
 use crate::oracle;
 use crate::oracle_tp::{has_bytes_behind, Stream};
 use crate::places::{self, Cause, Faults};
@@ -168,6 +169,8 @@ pub struct List {
     pub answers: BTreeMap<u64, u64>,
     /// Payloads, messages and options parts that are refused for an option.
     pub faults: Faults,
+    /// Sequences that are no equal runs, of which the last records are the first few.
+    pub left_out: usize,
 }
 
 impl List {
@@ -242,6 +245,10 @@ impl List {
             println!("  {count:>8}  {number}");
         }
         self.faults.print();
+        if self.left_out > 0 {
+            let left_out = self.left_out;
+            println!("  left out, since a final segment ends behind data held: {left_out} sequences, of which {KEPT_BEHIND} come last");
+        }
     }
 }
 
@@ -590,25 +597,44 @@ fn state_checks(list: &mut List, stream: &mut Stream) -> Vec<u32> {
     checks
 }
 
-/// A sequence as records: its beginning, then each segment and each clearing. A sequence that leaves the comparison domain, or has a record
-/// that is too long, is left out.
-fn sequence_records(list: &mut List, sequence: &Sequence) -> bool {
+/// Which final segments of a sequence end behind data held, the buffer being lent with 16 plus the limit bytes.
+fn ends_behind(sequence: &Sequence) -> Vec<(usize, Answer)> {
+    ends::behind(sequence, 16 + sequence.limit as usize)
+}
+
+/// The answer to a step: the crate's, but for a final segment that ends behind data held, which it is not handed.
+fn answer_to(
+    stream: &mut Stream,
+    segment: &[u8],
+    behind: &[(usize, Answer)],
+    number: usize,
+) -> Answer {
+    ends::due(behind, number).unwrap_or_else(|| stream.consume(segment))
+}
+
+/// Whether a sequence can be recorded: it stays inside the comparison domain as far as ranges go, and no record is too long.
+fn recordable(sequence: &Sequence, behind: &[(usize, Answer)]) -> bool {
     if sequence.limit > 4096 {
         return false;
     }
     let mut tried = Stream::begin(sequence.limit);
-    for step in &sequence.steps {
+    for (number, step) in sequence.steps.iter().enumerate() {
         match step {
             Step::Segment(segment) if segment.len() > 700 => return false,
             Step::Segment(segment) if has_bytes_behind(segment) => return false,
             Step::Segment(segment) if tried.would_overflow(segment) => return false,
             Step::Segment(segment) => {
-                tried.consume(segment);
+                answer_to(&mut tried, segment, behind, number);
             }
             Step::Clear => tried.clear(),
             Step::Take => {}
         }
     }
+    true
+}
+
+/// A sequence as records: its beginning, then each segment and each clearing.
+fn sequence_records(list: &mut List, sequence: &Sequence, behind: &[(usize, Answer)]) {
     let mut stream = Stream::begin(sequence.limit);
     let checks = state_checks(list, &mut stream);
     let begun = Answer::default();
@@ -620,10 +646,10 @@ fn sequence_records(list: &mut List, sequence: &Sequence) -> bool {
         &checks,
         &[],
     );
-    for step in &sequence.steps {
+    for (number, step) in sequence.steps.iter().enumerate() {
         match step {
             Step::Segment(segment) => {
-                let answer = stream.consume(segment);
+                let answer = answer_to(&mut stream, segment, behind, number);
                 let checks = state_checks(list, &mut stream);
                 list.record(Kind::Segment, Settings::OFF, &[], answer, &checks, segment);
             }
@@ -643,14 +669,18 @@ fn sequence_records(list: &mut List, sequence: &Sequence) -> bool {
             Step::Take => {}
         }
     }
-    true
 }
 
-/// The list of streams: at least 3,200 sequences, and behind them reports in odd-even order.
+/// How many sequences are kept in which a final segment ends behind data held, the smallest aside.
+const KEPT_BEHIND: usize = 24;
+
+/// The list of streams: at least 3,200 sequences, behind them reports in odd-even order, and last a few of the sequences that were left out
+/// because a final segment in them ends behind data held.
 pub fn streams(seed: u64) -> List {
     let mut list = List::default();
     let mut number = 0;
     let mut sequences = 0;
+    let mut left_out = vec![smallest_behind()];
     while sequences < 3_200 || [30, 31, 32, 33, 37].iter().any(|n| list.often(*n) < OFTEN) {
         let mut r = Random::of(seed, family::RECORD, number);
         let sequence = tp_inputs::sequence(&mut r);
@@ -659,12 +689,34 @@ pub fn streams(seed: u64) -> List {
         if sequence.steps.len() > 12 && number % 8 != 0 {
             continue;
         }
-        if sequence_records(&mut list, &sequence) {
-            sequences += 1;
+        let behind = ends_behind(&sequence);
+        if !recordable(&sequence, &behind) {
+            continue;
         }
+        if !behind.is_empty() {
+            left_out.push(sequence);
+            continue;
+        }
+        sequence_records(&mut list, &sequence, &behind);
+        sequences += 1;
     }
     odd_even_records(&mut list, seed);
+    list.left_out = left_out.len() - 1;
+    for sequence in left_out.iter().take(1 + KEPT_BEHIND) {
+        sequence_records(&mut list, sequence, &ends_behind(sequence));
+    }
     list
+}
+
+/// 16 bytes at 0 and 16 at 16, with more to follow, and then a final segment from 0 to 16.
+fn smallest_behind() -> Sequence {
+    let steps = [(0, true), (16, true), (0, false)]
+        .map(|(offset, more)| Step::Segment(tp_inputs::segment(offset, more, &[7; 16])));
+    Sequence {
+        limit: 32,
+        spare: 0,
+        steps: steps.to_vec(),
+    }
 }
 
 /// Reports of 8, 16, .. segments in odd-even order, until as many ranges are held as may be.
@@ -672,7 +724,9 @@ fn odd_even_records(list: &mut List, seed: u64) {
     for (number, segments) in (8..=2 * MOST_RANGES).step_by(8).enumerate() {
         let mut r = Random::of(seed, family::ODD_EVEN_RECORD, number as u64);
         let sequence = tp_inputs::odd_even(&mut r, segments, 16);
-        assert!(sequence_records(list, &sequence), "inside the domain");
+        let behind = ends_behind(&sequence);
+        assert!(behind.is_empty() && recordable(&sequence, &behind));
+        sequence_records(list, &sequence, &behind);
     }
 }
 

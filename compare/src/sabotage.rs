@@ -56,6 +56,10 @@ pub enum Fault {
     RefusalWrites,
     GapFillerRefused,
     FullOneEarly,
+    EndBehindTaken,
+    NewEndToldAsPrevious,
+    EndAtTheDataRefused,
+    RangePastEndTaken,
     ClearKeepsEnd,
     ClearWipesPairs,
     NoStreamCleared,
@@ -106,7 +110,7 @@ const SERVICE_DISCOVERY: [Fault; 40] = [
     TableLeftAfterProtocol,
     InputDamaged,
 ];
-const STREAMS: [Fault; 12] = [
+const STREAMS: [Fault; 16] = [
     SegmentSwallowed,
     FirstBytesWin,
     EndIgnored,
@@ -116,6 +120,10 @@ const STREAMS: [Fault; 12] = [
     RefusalWrites,
     GapFillerRefused,
     FullOneEarly,
+    EndBehindTaken,
+    NewEndToldAsPrevious,
+    EndAtTheDataRefused,
+    RangePastEndTaken,
     ClearKeepsEnd,
     ClearWipesPairs,
     NoStreamCleared,
@@ -132,6 +140,17 @@ fn move_place(answer: &mut Answer, by: i64) {
     if let Some(place) = answer.place() {
         *place = place.wrapping_add_signed(by);
     }
+}
+
+/// The greatest end of the ranges that a state holds.
+fn furthest(state: &[u32]) -> Option<u32> {
+    let held = (state[1] as usize).min(MOST_RANGES);
+    (0..held).map(|range| state[5 + 2 * range]).max()
+}
+
+/// Whether it is past the known end, nothing else being wrong with the one range that is held.
+fn past_end(state: &[u32]) -> bool {
+    state.len() == WORDS && state[1..3] == [1, 1] && state[3] < state[5] && state[5] <= state[0]
 }
 
 impl<P: Calls> Faulty<'_, P> {
@@ -399,8 +418,29 @@ impl<P: Calls> Calls for Faulty<'_, P> {
 
     fn consume(&self, state: &mut [u32], segment: &[u8], buffer: &mut [u8]) -> Answer {
         let (held, bytes) = (state.to_vec(), buffer.to_vec());
-        let answer = self.inner.consume(state, segment, buffer);
+        if self.is(RangePastEndTaken) && past_end(state) {
+            return Answer::default();
+        }
+        let mut answer = self.inner.consume(state, segment, buffer);
         match self.fault {
+            // No end is known before, so that 33 is for the data held.
+            EndBehindTaken if answer.number == 33 && held[2] == 0 => {
+                (state[2], state[3]) = (1, answer.values[1] as u32);
+                return Answer::default();
+            }
+            NewEndToldAsPrevious if answer.number == 33 && held[2] == 0 => {
+                answer.values[0] = answer.values[1]
+            }
+            EndAtTheDataRefused
+                if answer.accepted()
+                    && (held[2], state[2]) == (0, 1)
+                    && furthest(&held) == Some(state[3]) =>
+            {
+                let end = state[3].into();
+                state.copy_from_slice(&held);
+                buffer.copy_from_slice(&bytes);
+                return Answer::new(33, &[end, end]);
+            }
             SegmentSwallowed if answer.accepted() && segment.len() == 20 + 48 => {
                 state.copy_from_slice(&held);
                 buffer.copy_from_slice(&bytes);

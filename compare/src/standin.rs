@@ -98,7 +98,8 @@ fn held(state: &[u32]) -> Option<Vec<TpRange>> {
             end: pair[1],
         })
         .collect();
-    let bad = |r: &TpRange| r.end < r.start || r.end > limit;
+    let top = if state[2] != 0 { state[3] } else { limit };
+    let bad = |r: &TpRange| r.end < r.start || r.end > limit.min(top);
     let touching = (1..count).any(|i| (0..i).any(|j| ranges[i].merge(ranges[j]).is_some()));
     let past = state[2] != 0 && state[3] > limit;
     (!ranges.iter().any(bad) && !touching && !past).then_some(ranges)
@@ -241,6 +242,10 @@ impl Calls for StandIn {
         let known = u64::from(state[3]);
         if state[2] != 0 && (end > known || !more && end != known) {
             return Answer::new(33, &[known, end]);
+        }
+        let furthest = ranges.iter().map(|range| u64::from(range.end)).max();
+        if let (false, Some(furthest)) = (more, furthest.filter(|furthest| *furthest > end)) {
+            return Answer::new(33, &[furthest, end]);
         }
         if (buffer.len() as u64) < 16 + end {
             return Answer::new(34, &[16 + end]);

@@ -1,9 +1,13 @@
 //! The comparison of one stream: what the port answers, holds and writes after each step, beside the crate's `TpBuf`.
 
 use crate::calls::{Answer, Calls, MOST_LIMIT, MOST_RANGES, WORDS};
+use crate::ends;
 use crate::oracle_tp::{has_bytes_behind, Seen, Stream};
 use crate::tally::{hex, Tally};
 use crate::tp_inputs::{Sequence, Step};
+
+/// Why a sequence is no equal run, though all of it is compared: the rules refuse by 33 what the crate takes.
+const ENDS_BEHIND: &str = "sequences in which a final segment ends behind data held";
 
 /// How words that are one too few are called.
 const ONE_FEWER: &str = "a word fewer than a state has";
@@ -67,10 +71,15 @@ impl<'a, P: Calls> Tp<'a, P> {
     }
 
     /// One sequence inside the rules' domain: the buffer has room for the limit. A segment that would make a range too many is not handed to
-    /// the crate; 35 is due.
+    /// the crate; 35 is due. Nor is a final segment that ends behind data held; 33 is due, and the sequence is none of the equal runs.
     pub fn sequence(&mut self, kind: &'static str, sequence: &Sequence) {
-        self.tally.input(kind);
         let room = 16 + sequence.limit as usize + sequence.spare;
+        let behind = ends::behind(sequence, room);
+        if behind.is_empty() {
+            self.tally.input(kind);
+        } else {
+            self.tally.leave_out(ENDS_BEHIND);
+        }
         let mut lent = Lent::new(room);
         let mut stream = Stream::begin(sequence.limit);
         let mut touched = Touched::default();
@@ -81,19 +90,32 @@ impl<'a, P: Calls> Tp<'a, P> {
         let differences = self.tally.differences;
         let mut most = 0;
         for (number, step) in sequence.steps.iter().enumerate() {
-            let held = self.step(step, &mut stream, &mut lent, &mut touched, sequence, number);
+            let due = ends::due(&behind, number);
+            let held = self.step(
+                step,
+                due,
+                &mut stream,
+                &mut lent,
+                &mut touched,
+                sequence,
+                number,
+            );
             most = most.max(held);
             if self.tally.differences > differences {
                 return;
             }
         }
-        self.tally.held(kind, most);
+        if behind.is_empty() {
+            self.tally.held(kind, most);
+        }
     }
 
-    /// One step; answers how many ranges the crate holds after it.
+    /// One step, with the answer that is due by the rules alone, if it is; answers how many ranges the crate holds after it.
+    #[allow(clippy::too_many_arguments)]
     fn step(
         &mut self,
         step: &Step,
+        due: Option<Answer>,
         stream: &mut Stream,
         lent: &mut Lent,
         touched: &mut Touched,
@@ -103,7 +125,10 @@ impl<'a, P: Calls> Tp<'a, P> {
         let held = lent.state;
         match step {
             Step::Segment(segment) => {
-                let want = self.consume(stream, segment);
+                let want = match due {
+                    Some(answer) => self.refused_by_rules(stream, segment, answer),
+                    None => self.consume(stream, segment),
+                };
                 let got = self
                     .port
                     .consume(&mut lent.state, segment, &mut lent.buffer);
@@ -142,6 +167,19 @@ impl<'a, P: Calls> Tp<'a, P> {
             }
         }
         self.state_is(stream, lent, touched, sequence, number)
+    }
+
+    /// The answer that is due by the rules to a segment that the crate takes. It is not handed to it, but it has to be one that it takes.
+    fn refused_by_rules(&mut self, stream: &Stream, segment: &[u8], due: Answer) -> Answer {
+        let taken = stream.clone().consume(segment);
+        self.tally.same(
+            "taken by the crate, refused by the rules",
+            &Answer::default(),
+            &taken,
+            || hex(segment),
+        );
+        self.tally.document(due.number);
+        due
     }
 
     /// The crate's answer to a segment, or 35 by the rules.
@@ -214,13 +252,16 @@ impl<'a, P: Calls> Tp<'a, P> {
         let mut lent = Lent::new(short);
         let mut stream = Stream::begin(sequence.limit);
         self.port.begin(&mut lent.state, sequence.limit);
+        let mut walk = ends::Walk::new(sequence.limit, short);
         for (number, step) in sequence.steps.iter().enumerate() {
             let Step::Segment(segment) = step else {
                 continue;
             };
             let mut tried = stream.clone();
             let mut want = tried.consume(segment);
-            if want.accepted() {
+            if let Some(due) = walk.comes(segment) {
+                want = due;
+            } else if want.accepted() {
                 let offset =
                     u32::from_be_bytes([segment[16], segment[17], segment[18], segment[19] & 0xf0]);
                 let needed = 16 + offset as usize + segment.len() - 20;
@@ -292,7 +333,7 @@ impl<'a, P: Calls> Tp<'a, P> {
     /// The state damaged in each way that the rules list: 38, nothing written; and too few words.
     fn malformed(&mut self, lent: &Lent, sequence: &Sequence) {
         let limit = lent.state[0];
-        let damage: [(&str, Spoil); 8] = [
+        let damage: [(&str, Spoil); 9] = [
             ("a range too many", |s| s[1] = MOST_RANGES as u32 + 1),
             ("a range that ends before its start", |s| {
                 s[1] = 1;
@@ -301,6 +342,10 @@ impl<'a, P: Calls> Tp<'a, P> {
             ("a range past the limit", |s| {
                 s[1] = 1;
                 (s[4], s[5]) = (0, s[0] + 1);
+            }),
+            ("a range past the known end", |s| {
+                (s[0], s[1], s[2], s[3]) = (32, 1, 1, 31);
+                (s[4], s[5]) = (0, 32);
             }),
             ("two ranges that touch", |s| {
                 s[1] = 2;

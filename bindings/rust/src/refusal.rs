@@ -104,7 +104,8 @@ pub enum Refusal {
     /// 32: more follows, and the segment's length is no multiple of 16.
     #[allow(missing_docs)]
     UnalignedTpPayloadLen { offset: u32, payload_len: usize },
-    /// 33: a segment passes the known end, or is a final one with another end.
+    /// 33: a segment passes the known end, or is a final one with another end; or a final one ends behind data that is held, and the previous end is
+    /// then the greatest end held, which someip_parse does not refuse.
     #[allow(missing_docs)]
     ConflictingEnd {
         previous_end: u32,
@@ -692,6 +693,13 @@ impl fmt::Display for Refusal {
             } => write!(
                 f,
                 "a segment of {payload_len} bytes at offset {offset} says that more follows; its length is then a multiple of 16"
+            ),
+            ConflictingEnd {
+                previous_end,
+                conflicting_end,
+            } if conflicting_end < previous_end => write!(
+                f,
+                "a final segment ends at {conflicting_end}, but the report is known to reach {previous_end}"
             ),
             ConflictingEnd {
                 previous_end,

@@ -7,7 +7,7 @@ use viaductle::sd::options::{validate_configuration_string, TransportProtocol};
 use viaductle::sd::{
     OffsetTable, SdEntrySlice, SdMessage, SdOptionSlice, SdOptionsIndex, SdSlice, Settings,
 };
-use viaductle::{Place, Refusal, TpBuf};
+use viaductle::{Place, Refusal, TpBuf, TpStream, TP_STREAM_WORDS};
 
 /// The number and values of a payload's refusal, or 0 and the counts of entries and options.
 fn read(payload: &[u8], discard: bool) -> (u64, Vec<u64>) {
@@ -384,6 +384,11 @@ fn ends_and_limits() {
         Err(conflict)
     );
 
+    assert_eq!(
+        conflict.to_string(),
+        "refused, 33: a segment ends at 32, but the report's end is known to be 16"
+    );
+
     stream.clear();
     stream.consume_tp(&segment(0, false, &[])).unwrap();
     assert_eq!(stream.try_finalize().unwrap().length(), 8);
@@ -396,4 +401,42 @@ fn ends_and_limits() {
         max: 32,
     };
     assert_eq!(stream.consume_tp(&segment(48, true, &[])), Err(past));
+}
+
+/// A final segment that ends behind data held is refused, one that ends with it is taken.
+#[test]
+fn an_end_behind_the_data() {
+    let mut buffer = [0xee; 16 + 64];
+    let mut stream = TpBuf::new(64, &mut buffer).unwrap();
+    stream.consume_tp(&segment(0, true, &[1; 16])).unwrap();
+    stream.consume_tp(&segment(16, true, &[2; 16])).unwrap();
+    for (offset, length) in [(0, 16), (16, 15), (0, 0)] {
+        let behind = Refusal::ConflictingEnd {
+            previous_end: 32,
+            conflicting_end: offset + length as u32,
+        };
+        let last = segment(offset, false, &vec![3; length]);
+        assert_eq!(stream.consume_tp(&last), Err(behind));
+        assert!(!stream.is_complete());
+        assert_eq!(stream.stream().end(), None);
+        let reach = format!(
+            "ends at {}, but the report is known to reach 32",
+            offset + length as u32
+        );
+        assert!(behind.to_string().ends_with(&reach), "{behind}");
+    }
+    stream.consume_tp(&segment(32, false, &[])).unwrap();
+    let report = stream.take().unwrap();
+    assert_eq!(report.payload(), [[1; 16], [2; 16]].concat());
+
+    // The end that is known is told before how far the data reaches: a state that no run comes to.
+    let mut words = [0; TP_STREAM_WORDS];
+    words[..6].copy_from_slice(&[64, 1, 1, 64, 0, 32]);
+    let mut stream = TpStream::from_words(words);
+    let known = Refusal::ConflictingEnd {
+        previous_end: 64,
+        conflicting_end: 16,
+    };
+    let last = segment(0, false, &[3; 16]);
+    assert_eq!(stream.consume_tp(&last, &mut buffer), Err(known));
 }

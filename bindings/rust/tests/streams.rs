@@ -151,6 +151,7 @@ fn malformed_states_are_refused_everywhere() {
         state(64, u32::MAX, 0, 0, &[]),
         state(64, 1, 0, 0, &[32, 16]),
         state(64, 1, 0, 0, &[0, 80]),
+        state(64, 1, 1, 31, &[0, 32]),
         state(64, 2, 0, 0, &[0, 16, 16, 32]),
         state(64, 1, 1, 65, &[0, 64]),
         state(64, 1, 2, 64, &[0, 64]),

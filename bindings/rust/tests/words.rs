@@ -118,6 +118,19 @@ fn bin_show_says_the_same() {
         .collect();
     assert_eq!(found, expected);
 
+    // 33, by which of the two ends is the lower.
+    let end = |previous_end: u32, conflicting_end: u32| {
+        let refusal = Refusal::ConflictingEnd {
+            previous_end,
+            conflicting_end,
+        };
+        said(refusal, &[previous_end.into(), conflicting_end.into()])
+    };
+    let (_, code) = source.split_once("fn end_words(").unwrap();
+    let (code, _) = code.split_once("\n}\n").unwrap();
+    let found: Vec<String> = code.split("told(").skip(1).map(printed).collect();
+    assert_eq!(found, [end(4002, 4001), end(4001, 4002)]);
+
     let length = |len_source| {
         let refusal = Refusal::OptionLen {
             required_len: a,
@@ -195,13 +208,6 @@ fn bin_show_says_the_same() {
             UnalignedTpPayloadLen {
                 offset: 4001,
                 payload_len: b,
-            },
-            &[4001, 4002],
-        ),
-        (
-            ConflictingEnd {
-                previous_end: 4001,
-                conflicting_end: 4002,
             },
             &[4001, 4002],
         ),

@@ -20,12 +20,13 @@ use Rattle.refusal.specs.declared.answers.Count.{Count}
 use Rattle.refusal.specs.declared.answers.Count.the-variants as count
 use Rattle.refusal.specs.Said.{said, verdict-said, verdict-refusal, count-said}
 use Rattle.tp_machine.specs.Machine.{most, State, Out, begun, begin, step, opened, fed, clear, bad-state}
-use Rattle.tp_machine.specs.Taking.{Taken, complete, ready, finished, report, taking}
+use Rattle.tp_machine.specs.Taking.{Taken, complete, end-held, ready, finished, report, taking}
 use Rattle.tp_machine.specs.Meaning.{Complete}
-use Rattle.tp_machine.specs.Runs.{admitted, Reported}
+use Rattle.tp_machine.specs.Runs.{admitted, WholeEnds, Reported}
 use Rattle.tp_machine.proofs.Steps.{every-step}
 use Rattle.tp_machine.proofs.Tests as tests
 use Rattle.tp_machine.proofs.Report.{every-report}
+use Rattle.tp_machine.proofs.Ends.{every-end}
 use Rattle.tp_stream.specs.declared.TpStream.{TpStream}
 use Rattle.tp_stream.specs.declared.TpStep.{TpStep}
 use Rattle.tp_stream.specs.Stream.{view, stored, blank}
@@ -216,10 +217,17 @@ reports {limit} {buf} {ws′} {buf′} {b} {segs} c whole takes =
     let o : Out = fed (opened limit buf) segs in
     let is : complete (o .state) ≡ true = ap complete (sym (stands .state)) ∙ tests.complete-means (state-of ws′) .1 whole in
     let given = every-report limit buf segs is in
+    let closed = every-end limit buf segs is in
+    let ends : closed .end ≡ given .size = ap end-held (sym (closed .one-range) ∙ given .one-range) in
     let same : taking (state-of ws′) buf′ ≡ taking (o .state) (o .buffer) = λ i. taking (stands .state i) (stands .buffer i) in
     let answer : taking (state-of ws′) buf′ .answer ≡ paper.accepted (given .size) = ap (λ (t : Taken). t .answer) same ∙ given .answer in
     let part : take (16 + given .size) b ≡ taking (o .state) (o .buffer) .part = takes .report (given .size) answer .part ∙ ap (λ (t : Taken). t .part) same in
-    record { end = given .size; told-length = takes .answers ∙ ap (told report-values) answer; reported = subst (Reported (admitted (opened limit buf) segs) (given .size)) (sym part) (given .reported) }
+    record {
+      end = given .size;
+      whole = subst (WholeEnds (admitted (opened limit buf) segs)) ends (closed .whole);
+      told-length = takes .answers ∙ ap (told report-values) answer;
+      reported = subst (Reported (admitted (opened limit buf) segs) (given .size)) (sym part) (given .reported);
+    }
 
 unfit-shut : (ws : List ℕ) → unfit ws ≡ true → Shut ws
 unfit-shut ws e =

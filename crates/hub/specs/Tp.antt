@@ -12,7 +12,7 @@ use Rattle.numbers.specs.Answers.{accepted, refused, Verdict, pass, refuse_when
 use Rattle.tp_machine.specs.Machine.{State, Out, step, begun, begin, opened, fed, clear}
 use Rattle.tp_machine.specs.Taking.{complete, taking}
 use Rattle.tp_machine.specs.Meaning.{Complete}
-use Rattle.tp_machine.specs.Runs.{admitted, Reported}
+use Rattle.tp_machine.specs.Runs.{admitted, WholeEnds, Reported}
 use Rattle.tp_stream.specs.Stream.{stored, blank}
 use Rattle.tp_words.specs.Words.{size, unfit, stream-of, state-of, put}
 use Rattle.hub.specs.declared.answers.Answer.{Answer}
@@ -85,9 +85,11 @@ pub record Stands (o : Out) (ws buf : List ℕ) (r : Answer) : Type 0 where
   pub buffer : buf ≡ o .buffer
   pub answer : r ≡ told no-values (o .answer)
 
--- the report r, b of a complete stream: its length is told, and in front stands what the rules say of the accepted segments
+-- the report r, b of a complete stream: its length is told, it ends where an accepted final segment ends and none past it, and in front stands
+-- what the rules say of the accepted segments
 pub record Reports (segs : List (List ℕ)) (r : Answer) (b : List ℕ) : Type 0 where
   pub end : ℕ
+  pub whole : WholeEnds segs end
   pub told-length : r ≡ row 0 ((16 + end) ∷ [])
   pub reported : Reported segs end (take (16 + end) b)
 

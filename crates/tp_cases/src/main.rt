@@ -21,6 +21,8 @@ ghost use mathlib.Core.Path.{_≡_};
 ghost use Prim.Native.Nat.{_≤_};
 ghost use lib.ListN.{length};
 
+mod ends; // ends.rt: an end behind the data held
+
 // Room for a report of 64 bytes of payload, and for one of 2,112.
 const ROOM: usize = 80;
 
@@ -126,7 +128,13 @@ fn consumed(s: TpStream, buf: &mut [u8], words: &mut [u32], other: &mut [u8], pi
 }
 
 // One segment comes; prints it with the answer.
-fn comes(s: TpStream, buf: &mut [u8], words: &mut [u32], other: &mut [u8], piece: Piece) -> TpStream
+fn answered(
+    s: TpStream,
+    buf: &mut [u8],
+    words: &mut [u32],
+    other: &mut [u8],
+    piece: Piece,
+) -> TpStream
     requires { ⌜ piece .length ≤ 16 ⌝ }
 {
     describe(piece);
@@ -134,8 +142,16 @@ fn comes(s: TpStream, buf: &mut [u8], words: &mut [u32], other: &mut [u8], piece
     let said = came.said;
     let told = came.told;
     judged(said, told);
-    text(b"; ");
     came.stream
+}
+
+// The same, and more comes on the line.
+fn comes(s: TpStream, buf: &mut [u8], words: &mut [u32], other: &mut [u8], piece: Piece) -> TpStream
+    requires { ⌜ piece .length ≤ 16 ⌝ }
+{
+    let stream = answered(s, buf, words, other, piece);
+    text(b"; ");
+    stream
 }
 
 // Segments of 16 bytes with gaps of 16 between them, in words.
@@ -285,4 +301,12 @@ fn main() {
     one(32, last(48, 0));
     full();
     odd_even();
+    // 0 to 32 is held: an end of 16 is 33 (32, 16), one of 31 33 (32, 31), one of 32 accepted.
+    ends::behind(last(0, 16), last(16, 16));
+    ends::behind(last(16, 15), last(32, 0));
+    // An empty final at 0 with 16 bytes held: 33 (16, 0).
+    two(64, more(0, 16), last(0, 0));
+    // By hand: end 64, 0 to 32 held: 33 (64, 16). End 16: 38.
+    ends::both_rules();
+    ends::past_end();
 }

@@ -182,7 +182,7 @@ module _ (f : TpRange → Bool) (n : TpRange) (hull : (g r : TpRange) → (f g �
   unfolding joined
   joined-some rs o = any-append f (keep n rs) (grow n n rs) ∙ grow-some n rs o
 
-lies-around : (s : List ℕ) (r : TpRange) → around s r ≡ true → Around (range-of s) r
+pub lies-around : (s : List ℕ) (r : TpRange) → around s r ≡ true → Around (range-of s) r
 unfolding around
 lies-around s r e = let o = and-inv (leb (r .start) (offset s)) (leb (end-of s) (r .end)) e in (leb-true (r .start) (offset s) (o .0), leb-true (end-of s) (r .end) (o .1))
 

@@ -2,12 +2,14 @@ pub mod Cases
 pub mod Bounds
 pub mod Lists
 pub mod Joining
+pub mod Greatest
 pub mod Tests
 pub mod RuleLaws
 pub mod Writing
 pub mod Steps
 pub mod Runs
 pub mod Report
+pub mod Ends
 pub mod Unseen
 pub mod Order
 pub mod Theorems

@@ -3,13 +3,13 @@ use mathlib.Core.Path.{refl}
 use Rattle.numbers.specs.Bytes.{be16, be32, at16, at32}
 use Rattle.numbers.specs.Answers.{refuse_when_else_, given}
 use Rattle.tp_machine.specs.Segments.{tp-type, is-segment, offset, more, payload, without-tp, header, pasted, written}
-use Rattle.tp_machine.specs.Ranges.{any, touch, hull-of, keep, grow, joined, some-touch}
+use Rattle.tp_machine.specs.Ranges.{any, touch, hull-of, keep, grow, joined, some-touch, greatest-end}
 use Rattle.tp_machine.specs.Machine.{bad-range, bad-state, judged, after, step, begun, begin, fed}
 use Rattle.tp_machine.specs.Taking.{complete, ready, taking}
 use Rattle.tp_machine.specs.Order.{Order}
 
 pub order : Order
-unfolding be16 be32 at16 at32 refuse_when_else_ given tp-type is-segment offset more payload without-tp header pasted written any touch hull-of keep grow joined some-touch bad-range bad-state judged after step begun begin fed complete ready taking
+unfolding be16 be32 at16 at32 refuse_when_else_ given tp-type is-segment offset more payload without-tp header pasted written any touch hull-of keep grow joined some-touch greatest-end bad-range bad-state judged after step begun begin fed complete ready taking
 order = record {
   segment = record {
     38-before-30 = refl;
@@ -17,6 +17,8 @@ order = record {
     31-before-32 = refl;
     32-before-33 = refl;
     33-before-34 = refl;
+    33-before-33 = refl;
+    33-of-data-before-34 = refl;
     34-before-35 = refl;
     35-last = refl;
   };

@@ -12,14 +12,17 @@ use Rattle.numbers.specs.Refusals.{Refusal, conflicting-end}
 use Rattle.numbers.specs.Rules.{Follows}
 use Rattle.numbers.proofs.TestLaws.{below, unequal, fails, lacks}
 use Rattle.numbers.proofs.RuleLaws.{follows-accepted, follows-if, follows-when}
+use Rattle.tp_machine.specs.declared.TpRange.{TpRange}
 use Rattle.tp_machine.specs.declared.TpEnd.{TpEnd}
 use Rattle.tp_machine.specs.declared.TpEnd.the-variants.{Unknown, Known}
 use Rattle.tp_machine.specs.Segments.{is-segment, more, size, end-of}
-use Rattle.tp_machine.specs.Machine.{most, State, bad-state, not-aligned, conflicts, previous, taken, judged, begun}
+use Rattle.tp_machine.specs.Ranges.{greatest-end}
+use Rattle.tp_machine.specs.Machine.{most, State, bad-state, not-aligned, conflicts, previous, data-past, taken, judged, begun}
 use Rattle.tp_machine.specs.Taking.{complete, end-held, ready}
-use Rattle.tp_machine.specs.Rules.{begin-rules, Conflict, segment-rules, taking-rules}
+use Rattle.tp_machine.specs.Rules.{begin-rules, Conflict, Behind, segment-rules, taking-rules}
 use Rattle.tp_machine.specs.Theorems.{RulesFollowed}
 use Rattle.numbers.proofs.TestLaws.{and-inv, or-cases}
+use Rattle.tp_machine.proofs.Greatest.{greatest-told, greatest-past}
 use Rattle.tp_machine.proofs.Tests.{segment-means, good-means, complete-means}
 
 begin-follows : (limit : ℕ) → Follows (begun limit) (begin-rules limit)
@@ -48,6 +51,16 @@ conflict-means (Known e) m x r = (
   (λ w. record { previous = e; known = refl; other = other-end e m x .0 (w .0); says = w .1 }),
 )
 
+-- a final segment that ends below the greatest end held
+behind-means : (rs : List TpRange) (m : Bool) (x : ℕ) (r : Refusal) → Behind rs m x r ↔ ((data-past rs m x ≡ true) × (conflicting-end (greatest-end rs) x ≡ r))
+behind-means rs m x r = (
+  (λ w. let same : greatest-end rs ≡ w .previous = greatest-told rs (w .previous) (w .greatest) in (rw (w .final, same) (lt-ltb x (w .previous) (w .below)), rw same (w .says))),
+  (λ w.
+      let a = and-inv (not m) (ltb x (greatest-end rs)) (w .0) in
+      let below = ltb-true x (greatest-end rs) (a .1) in
+      record { final = not-true m (a .0); previous = greatest-end rs; greatest = greatest-past rs x below; below = below; says = w .1 }),
+)
+
 segment-follows : (p : State) (seg : List ℕ) (room : ℕ) → Follows (judged p seg room) (segment-rules p seg room)
 unfolding judged
 segment-follows p seg room =
@@ -56,9 +69,10 @@ segment-follows p seg room =
     (follows-if _ _ (below (p .limit) (end-of seg))
     (follows-if _ _ (unaligned-means seg)
     (follows-when _ _ _ (conflict-means (p .end) (more seg) (end-of seg))
+    (follows-when _ _ _ (behind-means (p .ranges) (more seg) (end-of seg))
     (follows-if _ _ (below room (16 + end-of seg))
     (follows-if _ _ (below most (length (taken p seg .ranges)))
-    (follows-accepted tt)))))))
+    (follows-accepted tt))))))))
 
 taking-follows : (p : State) (room : ℕ) → Follows (ready p room) (taking-rules p room)
 unfolding ready

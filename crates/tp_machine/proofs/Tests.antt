@@ -1,15 +1,17 @@
 -- The machine's tests mean what the rules say in plain words, both ways; and an accepted segment leaves no malformed state.
 -- Assumes nothing.
-use Prim.Native.Nat.{ℕ, _+_, _-_, _%_, _≤_}
+use Prim.Native.Nat.{ℕ, _+_, _-_, _%_, _≤_, max}
 use mathlib.Core.Path.{_≡_, refl, sym, ap, _∙_}
 use mathlib.Core.Bool.{Bool, true, false, not, cond, or-false, or-true, false≢true}
 use mathlib.Core.List.{List, [], _∷_}
 use mathlib.Core.Logic.{inl, inr, ⊎-elim, _↔_}
+use native.Mathlib.Nat.{le-refl}
 use native.Mathlib.Omega.{arith}
 use borrow.Author.Tests.{ltb-false, le-ltb, eqb-true, eq-eqb, not-true, not-false}
 use lib.Dec.{ltb, eqb}
 use lib.ListN.{length, getD}
 use Rattle.numbers.specs.Bytes.{at32}
+use Rattle.numbers.specs.Answers.{All}
 use Rattle.numbers.specs.Refusals.{not-a-segment, segment-too-big, unaligned, conflicting-end, buffer-too-short, ranges-full, malformed-state}
 use Rattle.numbers.proofs.AnswerLaws.{when-accepted, when-pass, all-map}
 use Rattle.tp_machine.specs.declared.TpRange.{TpRange}
@@ -17,14 +19,15 @@ use Rattle.tp_machine.specs.declared.TpEnd.{TpEnd}
 use Rattle.tp_machine.specs.declared.TpEnd.the-variants.{Unknown, Known}
 use Rattle.tp_machine.specs.Lists.{OneOf}
 use Rattle.tp_machine.specs.Segments.{tp-type, is-segment, offset, more, size, end-of}
-use Rattle.tp_machine.specs.Ranges.{any, hull-of, some-touch}
-use Rattle.tp_machine.specs.Machine.{most, highest, State, bad-range, end-past, bad-state, too-big, not-aligned, conflicts, previous, too-short, taken, too-many, judged}
+use Rattle.tp_machine.specs.Ranges.{any, hull-of, some-touch, greatest-end}
+use Rattle.tp_machine.specs.Machine.{most, highest, State, end-before, bad-range, end-past, bad-state, too-big, not-aligned, conflicts, previous, data-past, too-short, taken, too-many, judged}
 use Rattle.tp_machine.specs.Taking.{is-known, whole, complete}
-use Rattle.tp_machine.specs.Meaning.{types, range, range-of, Fine, Within, Good, Agrees, Accepted}
+use Rattle.tp_machine.specs.Meaning.{types, range, range-of, NotBefore, Fine, Within, Good, Agrees, Closes, Accepted}
 use Rattle.tp_machine.specs.Theorems.{SegmentMeans, GoodMeans, AcceptedMeans, CompleteMeans}
 use Rattle.numbers.proofs.TestLaws.{or-inv, or-cases, neither, and-inv, and-fails, not-both}
 use Rattle.tp_machine.proofs.Lists.{any-all, all-any}
 use Rattle.tp_machine.proofs.Joining.{all-joined, all-apart, joined-apart}
+use Rattle.tp_machine.proofs.Greatest.{none-past-means}
 
 -- ---- 30
 one-of-means : (x : ℕ) (ys : List ℕ) → (any (eqb x) ys ≡ true) ↔ OneOf x ys
@@ -55,11 +58,18 @@ segment-means s = (
 )
 
 -- ---- 38
+not-before-means : (e : TpEnd) (x : ℕ) → (end-before e x ≡ false) ↔ NotBefore e x
+not-before-means Unknown x = ((λ e. tt), (λ h. refl))
+not-before-means (Known e) x = (ltb-false e x, le-ltb e x)
+
 fine-means : (p : State) (r : TpRange) → (bad-range p r ≡ false) ↔ Fine p r
 unfolding bad-range
 fine-means p r = (
-  (λ e. let a = or-inv (ltb (r .end) (r .start)) _ e in record { forth = ltb-false (r .end) (r .start) (a .0); within = ltb-false (p .limit) (r .end) (a .1) }),
-  (λ f. neither _ _ (le-ltb (r .end) (r .start) (f .forth)) (le-ltb (p .limit) (r .end) (f .within))),
+  (λ e.
+      let a = or-inv (ltb (r .end) (r .start)) _ e in
+      let b = or-inv (ltb (p .limit) (r .end)) _ (a .1) in
+      record { forth = ltb-false (r .end) (r .start) (a .0); within = ltb-false (p .limit) (r .end) (b .0); not-past = not-before-means (p .end) (r .end) .0 (b .1) }),
+  (λ f. neither _ _ (le-ltb (r .end) (r .start) (f .forth)) (neither _ _ (le-ltb (p .limit) (r .end) (f .within)) (not-before-means (p .end) (r .end) .1 (f .not-past)))),
 )
 
 within-means : (e : TpEnd) (x : ℕ) → (end-past e x ≡ false) ↔ Within e x
@@ -101,6 +111,12 @@ agrees-means (Known e) m x = (
   (λ h. neither _ _ (le-ltb e x (h .0)) (not-both (not m) (not (eqb x e)) (λ f. ap not (eq-eqb x e (h .1 (not-true m f)))))),
 )
 
+closes-means : (rs : List TpRange) (m : Bool) (x : ℕ) → (data-past rs m x ≡ false) ↔ Closes rs m x
+closes-means rs m x = (
+  (λ q h. none-past-means rs x .0 (ltb-false x (greatest-end rs) (and-fails (not m) (ltb x (greatest-end rs)) q (ap not h)))),
+  (λ f. not-both (not m) (ltb x (greatest-end rs)) (λ h. le-ltb x (greatest-end rs) (none-past-means rs x .1 (f (not-true m h))))),
+)
+
 pub accepted-means : AcceptedMeans
 unfolding judged
 accepted-means p seg room = (
@@ -110,16 +126,18 @@ accepted-means p seg room = (
       let c = when-accepted (segment-too-big (offset seg) (size seg) (p .limit)) (too-big p seg) _ tt (b .1) in
       let d = when-accepted (unaligned (offset seg) (size seg)) (not-aligned seg) _ tt (c .1) in
       let f = when-accepted (conflicting-end (previous (p .end)) (end-of seg)) (conflicts (p .end) (more seg) (end-of seg)) _ tt (d .1) in
-      let g = when-accepted (buffer-too-short (16 + end-of seg)) (too-short seg room) _ tt (f .1) in
-      let h = when-accepted ranges-full (too-many p seg) _ tt (g .1) in
+      let g = when-accepted (conflicting-end (greatest-end (p .ranges)) (end-of seg)) (data-past (p .ranges) (more seg) (end-of seg)) _ tt (f .1) in
+      let h = when-accepted (buffer-too-short (16 + end-of seg)) (too-short seg room) _ tt (g .1) in
+      let i = when-accepted ranges-full (too-many p seg) _ tt (h .1) in
       record {
         good = good-means p .0 (a .0);
         segment = segment-means seg .0 (not-false (is-segment seg) (b .0));
         within = ltb-false (p .limit) (end-of seg) (c .0);
         aligned = aligned-means seg .0 (d .0);
         agrees = agrees-means (p .end) (more seg) (end-of seg) .0 (f .0);
-        fits = ltb-false room (16 + end-of seg) (g .0);
-        few = ltb-false most (length (taken p seg .ranges)) (h .0);
+        closes = closes-means (p .ranges) (more seg) (end-of seg) .0 (g .0);
+        fits = ltb-false room (16 + end-of seg) (h .0);
+        few = ltb-false most (length (taken p seg .ranges)) (i .0);
       }),
   (λ t.
       when-pass malformed-state (bad-state p) _ (good-means p .1 (t .good))
@@ -127,6 +145,7 @@ accepted-means p seg room = (
       ∙ when-pass (segment-too-big (offset seg) (size seg) (p .limit)) (too-big p seg) _ (le-ltb (p .limit) (end-of seg) (t .within))
       ∙ when-pass (unaligned (offset seg) (size seg)) (not-aligned seg) _ (aligned-means seg .1 (t .aligned))
       ∙ when-pass (conflicting-end (previous (p .end)) (end-of seg)) (conflicts (p .end) (more seg) (end-of seg)) _ (agrees-means (p .end) (more seg) (end-of seg) .1 (t .agrees))
+      ∙ when-pass (conflicting-end (greatest-end (p .ranges)) (end-of seg)) (data-past (p .ranges) (more seg) (end-of seg)) _ (closes-means (p .ranges) (more seg) (end-of seg) .1 (t .closes))
       ∙ when-pass (buffer-too-short (16 + end-of seg)) (too-short seg room) _ (le-ltb room (16 + end-of seg) (t .fits))
       ∙ when-pass ranges-full (too-many p seg) _ (le-ltb most (length (taken p seg .ranges)) (t .few))),
 )
@@ -158,13 +177,31 @@ within-after : (m : Bool) (e : TpEnd) (x limit : ℕ) → x ≤ limit → Within
 within-after true e x limit h w = w
 within-after false e x limit h w = h
 
+-- the end after it lies before neither its own end x nor that of a range
+not-before-new : (m : Bool) (e : TpEnd) (x : ℕ) → Agrees e m x → NotBefore (cond m e (Known x)) x
+not-before-new true Unknown x a = tt
+not-before-new true (Known e) x a = a .0
+not-before-new false e x a = le-refl x
+
+not-before-old : (m : Bool) (e : TpEnd) (x y : ℕ) → NotBefore e y → (m ≡ false → y ≤ x) → NotBefore (cond m e (Known x)) y
+not-before-old true e x y h f = h
+not-before-old false e x y h f = f refl
+
+not-before-both : (e : TpEnd) (x y : ℕ) → NotBefore e x → NotBefore e y → NotBefore e (max x y)
+not-before-both Unknown x y h k = tt
+not-before-both (Known e) x y h k = omega arith
+
 fine-hull : (p : State) (g r : TpRange) → Fine p g → Fine p r → Fine p (hull-of g r)
 unfolding hull-of
-fine-hull p g r f h = record { forth = omega arith; within = omega arith }
+fine-hull p g r f h = record { forth = omega arith; within = omega arith; not-past = not-before-both (p .end) (g .end) (r .end) (f .not-past) (h .not-past) }
 
--- a range that was fine stays so
-still-fine : (p : State) (seg : List ℕ) (r : TpRange) → Fine p r → Fine (taken p seg) r
-still-fine p seg r f = record { forth = f .forth; within = f .within }
+-- a range that was fine stays so, where a final segment does not end before it
+still-fine : (p : State) (seg : List ℕ) (r : TpRange) → Fine p r → (more seg ≡ false → r .end ≤ end-of seg) → Fine (taken p seg) r
+still-fine p seg r f h = record { forth = f .forth; within = f .within; not-past = not-before-old (more seg) (p .end) (end-of seg) (r .end) (f .not-past) h }
+
+all-still-fine : (p : State) (seg : List ℕ) (rs : List TpRange) → All (Fine p) rs → Closes rs (more seg) (end-of seg) → All (Fine (taken p seg)) rs
+all-still-fine p seg [] a c = tt
+all-still-fine p seg (r ∷ rs) a c = (still-fine p seg r (a .0) (λ h. c h .0), all-still-fine p seg rs (a .1) (λ h. c h .1))
 
 pub taken-good : (p : State) (seg : List ℕ) (room : ℕ) → Accepted p seg room → Good (taken p seg)
 taken-good p seg room t =
@@ -173,7 +210,9 @@ taken-good p seg room t =
       few = t .few;
       low = g .low;
       end-within = within-after (more seg) (p .end) (end-of seg) (p .limit) (t .within) (g .end-within);
-      each = all-joined (Fine (taken p seg)) (range-of seg) (fine-hull (taken p seg)) (p .ranges) (record { forth = omega arith; within = t .within }) (all-map (Fine p) (Fine (taken p seg)) (still-fine p seg) (p .ranges) (g .each));
+      each = all-joined (Fine (taken p seg)) (range-of seg) (fine-hull (taken p seg)) (p .ranges)
+          (record { forth = omega arith; within = t .within; not-past = not-before-new (more seg) (p .end) (end-of seg) (t .agrees) })
+          (all-still-fine p seg (p .ranges) (g .each) (t .closes));
       apart = all-apart (taken p seg .ranges) .0
           (joined-apart (range-of seg) (p .ranges) (all-apart (p .ranges) .1 (g .apart)) (all-map (Fine p) (λ r. r .start ≤ r .end) (λ r f. f .forth) (p .ranges) (g .each)));
     }

@@ -5,8 +5,10 @@ use Rattle.tp_machine.proofs.RuleLaws.{rules-followed}
 use Rattle.tp_machine.proofs.Writing.{header-means}
 use Rattle.tp_machine.proofs.Steps.{every-step, every-taking, empties, bytes-unseen, ranges-depend, never-malformed}
 use Rattle.tp_machine.proofs.Joining.{joining-covers, joining-order-unseen}
+use Rattle.tp_machine.proofs.Greatest.{greatest-means}
 use Rattle.tp_machine.proofs.Runs.{every-run}
 use Rattle.tp_machine.proofs.Report.{every-report}
+use Rattle.tp_machine.proofs.Ends.{end-is-greatest, every-end}
 use Rattle.tp_machine.proofs.Unseen.{set-is-order, order-unseen, runs-alike}
 use Rattle.tp_machine.proofs.Order.{order}
 use Rattle.tp_machine.proofs.Cases.{cases}
@@ -18,6 +20,7 @@ theorems = record {
   header-means = header-means;
   good-means = good-means;
   accepted-means = accepted-means;
+  greatest-means = greatest-means;
   complete-means = complete-means;
   rules-followed = rules-followed;
   order = order;
@@ -29,8 +32,10 @@ theorems = record {
   joining-order-unseen = joining-order-unseen;
   ranges-depend = ranges-depend;
   never-malformed = never-malformed;
+  end-is-greatest = end-is-greatest;
   every-run = every-run;
   every-report = every-report;
+  every-end = every-end;
   set-is-order = set-is-order;
   order-unseen = order-unseen;
   runs-alike = runs-alike;

@@ -20,6 +20,7 @@ use Rattle.tp_machine.specs.Theorems.{SetIsOrder, Unseen, OrderUnseen, R
 use Rattle.numbers.proofs.TestLaws.{same-test}
 use Rattle.tp_machine.proofs.Lists.{same-elements, any-moved, moved-back, length-moved, one-moved}
 use Rattle.tp_machine.proofs.Joining.{joining-order-unseen, touch-moved}
+use Rattle.tp_machine.proofs.Greatest.{greatest-moved}
 use Rattle.tp_machine.proofs.Tests.{whole-means}
 
 -- ---- the set
@@ -67,7 +68,7 @@ module _ (limit : ℕ) (end : TpEnd) (rs qs : List TpRange) (r : Rearranged rs q
 
   judged-moved : (seg : List ℕ) (room : ℕ) → judged p seg room ≡ judged q seg room
   unfolding p q judged
-  judged-moved seg room = rw (bad-moved, length-moved (joining-order-unseen (range-of seg) rs qs r))
+  judged-moved seg room = rw (bad-moved, greatest-moved r, length-moved (joining-order-unseen (range-of seg) rs qs r))
 
   step-moved : (seg buf : List ℕ) → Alike (step p seg buf) (step q seg buf)
   unfolding p q step after

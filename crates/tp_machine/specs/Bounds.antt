@@ -13,7 +13,7 @@ use Rattle.tp_machine.specs.declared.TpRange.{TpRange}
 use Rattle.tp_machine.specs.declared.TpEnd.{TpEnd}
 use Rattle.tp_machine.specs.declared.TpEnd.the-variants.{Unknown, Known}
 use Rattle.tp_machine.specs.Segments.{is-segment}
-use Rattle.tp_machine.specs.Machine.{State, fresh, Out, bad-state, step, begun, begin, opened, fed}
+use Rattle.tp_machine.specs.Machine.{State, fresh, Out, bad-state, step, begun, begin, opened, fed, clear}
 use Rattle.tp_machine.specs.Taking.{complete, taking}
 use Rattle.tp_machine.specs.Meaning.{range}
 use Rattle.tp_machine.specs.Cases.{_more-at_, _final-at_, Case, case, seen, Hold}
@@ -55,6 +55,22 @@ ends =
     ∷ case 64 (16 final-at 16 ∷ 16 final-at 16 ∷ []) pass false 0
     ∷ case 64 (16 final-at 16 ∷ 16 more-at 0 ∷ []) pass true 40
     ∷ case 64 (16 final-at 16 ∷ 16 more-at 16 ∷ []) pass false 0
+    ∷ []
+
+-- ---- 33: no end is known, and a final segment ends below the greatest end held, or at it
+
+abbrev pub ends-behind : List Case
+ends-behind =
+    case 64 (16 more-at 0 ∷ 16 more-at 16 ∷ 16 final-at 0 ∷ []) (refused (refusal 33 (32 ∷ 16 ∷ []))) false 0
+    ∷ case 64 (32 more-at 0 ∷ 15 final-at 16 ∷ []) (refused (refusal 33 (32 ∷ 31 ∷ []))) false 0
+    ∷ case 64 (16 more-at 0 ∷ 0 final-at 0 ∷ []) (refused (refusal 33 (16 ∷ 0 ∷ []))) false 0
+    -- of three ranges neither the first nor the last ends last
+    ∷ case 96 (16 more-at 0 ∷ 16 more-at 64 ∷ 16 more-at 32 ∷ 16 final-at 48 ∷ []) (refused (refusal 33 (80 ∷ 64 ∷ []))) false 0
+    ∷ case 64 (16 more-at 0 ∷ 16 more-at 16 ∷ 16 final-at 16 ∷ []) pass true 40
+    ∷ case 64 (16 more-at 0 ∷ 16 more-at 16 ∷ 0 final-at 32 ∷ []) pass true 40
+    ∷ case 64 (0 more-at 0 ∷ 0 final-at 0 ∷ []) pass true 8
+    -- refused, the stream is as it was, and its own end is taken
+    ∷ case 64 (16 more-at 0 ∷ 16 more-at 16 ∷ 16 final-at 0 ∷ 16 final-at 16 ∷ []) pass true 40
     ∷ []
 
 -- ---- how many ranges are held
@@ -113,18 +129,34 @@ pub record Malformed : Type 0 where
   pub end-past-limit : bad-state (holding-these 64 [] (Known 65)) ≡ true
   pub range-to-limit : bad-state (holding-these 64 (range 64 64 ∷ []) Unknown) ≡ false
   pub range-past-limit : bad-state (holding-these 64 (range 64 65 ∷ []) Unknown) ≡ true
+  pub range-to-end : bad-state (holding-these 64 (range 0 32 ∷ []) (Known 32)) ≡ false
+  pub range-past-end : bad-state (holding-these 64 (range 0 32 ∷ []) (Known 31)) ≡ true
   pub range-backwards : bad-state (holding-these 64 (range 2 1 ∷ []) Unknown) ≡ true
   pub ranges-apart : bad-state (holding-these 64 (range 0 1 ∷ range 2 3 ∷ []) Unknown) ≡ false
   pub ranges-touch : bad-state (holding-these 64 (range 0 1 ∷ range 1 2 ∷ []) Unknown) ≡ true
+
+-- a state with a range past its end, which would else be complete: 38, and nothing is written
+abbrev pub past-end : State
+past-end = holding-these 64 (range 0 32 ∷ []) (Known 16)
+
+pub record PastEnd : Type 0 where
+  pub comes : step past-end (16 final-at 0) (replicate 80 9) ≡ record { answer = refused (refusal 38 []); state = past-end; buffer = replicate 80 9 }
+  pub incomplete : complete past-end ≡ false
+  pub taken : taking past-end (replicate 80 9) ≡ record { answer = refused (refusal 38 []); buffer = replicate 80 9; part = [] }
+  pub cleared : clear past-end ≡ fresh 64
 
 pub record Bounds : Type 0 where
   pub cases : Hold unmarked
   pub segment-lines : SegmentLines
   pub ends-known : Hold ends
+  pub ends-below : Hold ends-behind
+  -- where both rules of 33 hold, the end that is known is the previous one
+  pub known-end-first : step (holding-these 64 (range 0 32 ∷ []) (Known 64)) (16 final-at 0) (replicate 80 9) .answer ≡ refused (refusal 33 (64 ∷ 16 ∷ []))
   pub fills : Fills
   pub full : Full
   pub odd-even : OddEven
   pub malformed : Malformed
+  pub past-its-end : PastEnd
   -- the highest limit, and one more
   pub highest : (begun 65520 ≡ pass) × (begin 65520 ≡ fresh 65520)
   pub too-high : (begun 65521 ≡ refused (refusal 36 (65521 ∷ []))) × (begin 65521 ≡ fresh 0)

@@ -11,7 +11,7 @@ use Rattle.tp_machine.specs.declared.TpRange.{TpRange}
 use Rattle.tp_machine.specs.declared.TpEnd.{TpEnd}
 use Rattle.tp_machine.specs.declared.TpEnd.the-variants.{Unknown, Known}
 use Rattle.tp_machine.specs.Segments.{is-segment, offset, more, size, end-of, written}
-use Rattle.tp_machine.specs.Ranges.{any, joined, some-touch}
+use Rattle.tp_machine.specs.Ranges.{any, joined, some-touch, greatest-end}
 
 -- how many ranges are held at most, and the highest payload limit
 abbrev pub most : ℕ
@@ -31,9 +31,14 @@ fresh limit = record { limit = limit; ranges = []; end = Unknown }
 
 -- ---- 38: the states that are malformed
 
--- a range that ends before its start or past the limit
+-- a known end before x
+abbrev pub end-before : TpEnd → ℕ → Bool
+end-before Unknown x = false
+end-before (Known e) x = ltb e x
+
+-- a range that ends before its start, past the limit or past a known end
 unfoldable pub bad-range : State → TpRange → Bool
-bad-range p r = ltb (r .end) (r .start) || ltb (p .limit) (r .end)
+bad-range p r = ltb (r .end) (r .start) || (ltb (p .limit) (r .end) || end-before (p .end) (r .end))
 
 -- a known end past x
 abbrev pub end-past : TpEnd → ℕ → Bool
@@ -52,8 +57,7 @@ too-big p seg = ltb (p .limit) (end-of seg)
 abbrev pub not-aligned : List ℕ → Bool
 not-aligned seg = more seg && not (eqb (size seg % 16) 0)
 
--- an end is known, and the new end x is past it, or this is a final segment with another end (as the Rust: an end below data that is held is
--- not looked at; DIFFERENCES, R6)
+-- an end is known, and the new end x is past it, or this is a final segment with another end
 abbrev pub conflicts : TpEnd → Bool → ℕ → Bool
 conflicts Unknown m x = false
 conflicts (Known e) m x = ltb e x || (not m && not (eqb x e))
@@ -61,6 +65,10 @@ conflicts (Known e) m x = ltb e x || (not m && not (eqb x e))
 abbrev pub previous : TpEnd → ℕ
 previous Unknown = 0
 previous (Known e) = e
+
+-- this is a final segment, and its end x lies below the greatest end held
+abbrev pub data-past : List TpRange → Bool → ℕ → Bool
+data-past rs m x = not m && ltb x (greatest-end rs)
 
 abbrev pub too-short : List ℕ → ℕ → Bool
 too-short seg room = ltb room (16 + end-of seg)
@@ -85,6 +93,7 @@ judged p seg room =
     refuse segment-too-big (offset seg) (size seg) (p .limit) when too-big p seg else
     refuse unaligned (offset seg) (size seg) when not-aligned seg else
     refuse conflicting-end (previous (p .end)) (end-of seg) when conflicts (p .end) (more seg) (end-of seg) else
+    refuse conflicting-end (greatest-end (p .ranges)) (end-of seg) when data-past (p .ranges) (more seg) (end-of seg) else
     refuse buffer-too-short (16 + end-of seg) when too-short seg room else
     refuse ranges-full when too-many p seg else
     pass

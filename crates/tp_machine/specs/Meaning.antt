@@ -51,10 +51,16 @@ range-of s = range (offset s) (offset s + size s)
 abbrev pub Apart : TpRange → TpRange → Type 0
 Apart a b = (a .end < b .start) ⊎ (b .end < a .start)
 
+-- an end, if known, is at least x
+abbrev pub NotBefore : TpEnd → ℕ → Type 0
+NotBefore Unknown x = Unit {0}
+NotBefore (Known e) x = x ≤ e
+
 -- a range as a state may hold it
 pub record Fine (p : State) (r : TpRange) : Type 0 where
   pub forth : r .start ≤ r .end
   pub within : r .end ≤ p .limit
+  pub not-past : NotBefore (p .end) (r .end)
 
 -- an end, if known, is at most x
 abbrev pub Within : TpEnd → ℕ → Type 0
@@ -70,10 +76,21 @@ pub record Good (p : State) : Type 0 where
 
 -- ---- not 31 to 35
 
--- not 33: where an end is known, the new end x isn't past it, and a final segment has that end
+-- not 33, twice: where an end is known, the new end x isn't past it, and a final segment has that end
 abbrev pub Agrees : TpEnd → (more : Bool) (x : ℕ) → Type 0
 Agrees Unknown more x = Unit {0}
 Agrees (Known e) more x = (x ≤ e) × (more ≡ false → x ≡ e)
+
+-- and no range ends past a final segment
+abbrev pub Closes : List TpRange → (more : Bool) (x : ℕ) → Type 0
+Closes rs more x = more ≡ false → All (λ r. r .end ≤ x) rs
+
+-- the greatest end of ranges: one of them ends there, and none past it
+pub record Greatest (rs : List TpRange) (x : ℕ) : Type 0 where
+  pub one : TpRange
+  pub held : OneOf one rs
+  pub there : one .end ≡ x
+  pub none-past : All (λ r. r .end ≤ x) rs
 
 -- a segment is accepted in state p, with a buffer of `room` bytes
 pub record Accepted (p : State) (seg : List ℕ) (room : ℕ) : Type 0 where
@@ -82,6 +99,7 @@ pub record Accepted (p : State) (seg : List ℕ) (room : ℕ) : Type 0 where
   pub within : offset seg + size seg ≤ p .limit
   pub aligned : more seg ≡ true → size seg % 16 ≡ 0
   pub agrees : Agrees (p .end) (more seg) (offset seg + size seg)
+  pub closes : Closes (p .ranges) (more seg) (offset seg + size seg)
   pub fits : 16 + (offset seg + size seg) ≤ room
   pub few : length (joined (range-of seg) (p .ranges)) ≤ most
 

@@ -22,6 +22,9 @@ pub record SegmentInOrder : Type 0 where
   pub 31-before-32 : step (fresh 0) (1 more-at 0) [] .answer gives 31 with (0 ∷ 1 ∷ 0 ∷ [])
   pub 32-before-33 : step (holding-these 1 [] (Known 0)) (1 more-at 0) [] .answer gives 32 with (0 ∷ 1 ∷ [])
   pub 33-before-34 : step (holding-these 1 [] (Known 0)) (1 final-at 0) [] .answer gives 33 with (0 ∷ 1 ∷ [])
+  -- 33 by the end that is known, before 33 by the data held: 2 is known, and 0 to 1 is held
+  pub 33-before-33 : step (holding-these 2 (range 0 1 ∷ []) (Known 2)) (0 final-at 0) [] .answer gives 33 with (2 ∷ 0 ∷ [])
+  pub 33-of-data-before-34 : step (holding-these 1 (range 0 1 ∷ []) Unknown) (0 final-at 0) [] .answer gives 33 with (1 ∷ 0 ∷ [])
   -- 64 ranges are held, and none of them touches the new one
   pub 34-before-35 : step (holding-these 64 (spread 64) Unknown) (0 final-at 64) [] .answer gives 34 with (80 ∷ [])
   pub 35-last : step (holding-these 64 (spread 64) Unknown) (0 final-at 64) (replicate 80 0) .answer gives 35 with []

@@ -1,5 +1,5 @@
 -- Ranges and their joining. Assumes nothing: these are definitions.
-use Prim.Native.Nat.{min, max}
+use Prim.Native.Nat.{ℕ, min, max}
 use mathlib.Core.Bool.{Bool, true, false, _&&_, _||_}
 use mathlib.Core.List.{List, [], _∷_, _++_}
 use lib.Dec.{leb}
@@ -46,3 +46,8 @@ joined n rs = keep n rs ++ (grow n n rs ∷ [])
 unfoldable pub some-touch : List TpRange → Bool
 some-touch [] = false
 some-touch (r ∷ rs) = any (touch r) rs || some-touch rs
+
+-- the greatest end of a list; 0 of none, below which no end lies
+unfoldable pub greatest-end : List TpRange → ℕ
+greatest-end [] = 0
+greatest-end (r ∷ rs) = max (r .end) (greatest-end rs)

@@ -8,13 +8,14 @@ use mathlib.Core.Logic.{_⊎_, _≢_}
 use lib.ListN.{length}
 use Rattle.numbers.specs.Refusals.{Refusal, refusal}
 use Rattle.numbers.specs.Rules.{Rules, accept, _if_else_, part_else_}
+use Rattle.tp_machine.specs.declared.TpRange.{TpRange}
 use Rattle.tp_machine.specs.declared.TpEnd.{TpEnd}
 use Rattle.tp_machine.specs.declared.TpEnd.the-variants.{Known}
 use Rattle.tp_machine.specs.Segments.{offset, more, size, end-of}
 use Rattle.tp_machine.specs.Ranges.{joined}
 use Rattle.tp_machine.specs.Machine.{most, State}
 use Rattle.tp_machine.specs.Taking.{end-held}
-use Rattle.tp_machine.specs.Meaning.{Segment, Good, Complete, range-of}
+use Rattle.tp_machine.specs.Meaning.{Segment, Good, Greatest, Complete, range-of}
 
 -- a stream is begun
 abbrev pub begin-rules : (limit : ℕ) → Rules
@@ -29,6 +30,14 @@ pub record Conflict (end : TpEnd) (more : Bool) (new : ℕ) (r : Refusal) : Type
   pub other : (previous < new) ⊎ ((more ≡ false) × (new ≢ previous))
   pub says : refusal 33 (previous ∷ new ∷ []) ≡ r
 
+-- 33: this is a final segment, and its end lies below the greatest end of the ranges held
+pub record Behind (ranges : List TpRange) (more : Bool) (new : ℕ) (r : Refusal) : Type 0 where
+  pub final : more ≡ false
+  pub previous : ℕ
+  pub greatest : Greatest ranges previous
+  pub below : new < previous
+  pub says : refusal 33 (previous ∷ new ∷ []) ≡ r
+
 -- a segment comes, in state `p` and with a buffer of `room` bytes
 abbrev pub segment-rules : (p : State) (seg : List ℕ) (room : ℕ) → Rules
 segment-rules p seg room =
@@ -37,6 +46,7 @@ segment-rules p seg room =
     refusal 31 (offset seg ∷ size seg ∷ p .limit ∷ []) if p .limit < end-of seg else
     refusal 32 (offset seg ∷ size seg ∷ []) if (more seg ≡ true) × (size seg % 16 ≢ 0) else
     part (Conflict (p .end) (more seg) (end-of seg)) else
+    part (Behind (p .ranges) (more seg) (end-of seg)) else
     refusal 34 ((16 + end-of seg) ∷ []) if room < 16 + end-of seg else
     refusal 35 [] if most < length (joined (range-of seg) (p .ranges)) else
     accept

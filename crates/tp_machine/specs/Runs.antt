@@ -1,6 +1,6 @@
 -- Runs of the machine: which segments were accepted, what the ranges cover, what the buffer holds, what the report is; and states that differ
 -- only in the order of their ranges. Assumes nothing: these are definitions.
-use Prim.Native.Nat.{ℕ, _+_, _-_, _<_}
+use Prim.Native.Nat.{ℕ, _+_, _-_, _≤_, _<_}
 use mathlib.Core.Path.{_≡_}
 use mathlib.Core.Bool.{Bool, true, false, _&&_, not}
 use mathlib.Core.List.{List, [], _∷_, _++_}
@@ -79,6 +79,14 @@ Lies rs s = any (around s) rs ≡ true
 pub record Ended (segs : List (List ℕ)) (e : TpEnd) : Type 0 where
   pub by : (s : List ℕ) → Latest final segs s → e ≡ Known (end-of s)
   pub by-none : any final segs ≡ false → e ≡ Unknown
+
+-- the whole ends at e: a final one of them ends there, and none past it
+pub record WholeEnds (segs : List (List ℕ)) (e : ℕ) : Type 0 where
+  pub last : List ℕ
+  pub among : OneOf last segs
+  pub is-final : final last ≡ true
+  pub there : end-of last ≡ e
+  pub none-past : All (λ s. end-of s ≤ e) segs
 
 -- the buffer c: each place of the payload and of the header
 pub record Filled (b : List ℕ) (segs : List (List ℕ)) (c : List ℕ) : Type 0 where

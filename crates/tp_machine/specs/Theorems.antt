@@ -10,15 +10,15 @@ use Rattle.numbers.specs.Refusals.{Refusal}
 use Rattle.numbers.specs.Answers.{accepted, refused, pass, All}
 use Rattle.numbers.specs.Rules.{Follows}
 use Rattle.tp_machine.specs.declared.TpRange.{TpRange}
-use Rattle.tp_machine.specs.declared.TpEnd.the-variants.{Unknown}
+use Rattle.tp_machine.specs.declared.TpEnd.the-variants.{Unknown, Known}
 use Rattle.tp_machine.specs.Lists.{Rearranged, Latest}
 use Rattle.tp_machine.specs.Segments.{is-segment, header, pasted, written}
-use Rattle.tp_machine.specs.Ranges.{any, joined}
+use Rattle.tp_machine.specs.Ranges.{any, joined, greatest-end}
 use Rattle.tp_machine.specs.Machine.{State, Out, bad-state, taken, judged, step, begun, begin, opened, fed, clear}
 use Rattle.tp_machine.specs.Taking.{complete, ready, Taken, taking}
-use Rattle.tp_machine.specs.Meaning.{Segment, HeaderOf, range, Good, Accepted, Complete}
+use Rattle.tp_machine.specs.Meaning.{Segment, HeaderOf, range, Good, Greatest, Accepted, Complete}
 use Rattle.tp_machine.specs.Rules.{begin-rules, segment-rules, taking-rules}
-use Rattle.tp_machine.specs.Runs.{Reached, admitted, holds, covered, spans, brought, Made, Lies, Ended, Filled, Reported, SameSet, Same, Alike}
+use Rattle.tp_machine.specs.Runs.{Reached, admitted, holds, covered, spans, brought, Made, Lies, Ended, WholeEnds, Filled, Reported, SameSet, Same, Alike}
 use Rattle.tp_machine.specs.Cases.{Cases}
 use Rattle.tp_machine.specs.Bounds.{Bounds}
 use Rattle.tp_machine.specs.Order.{Order}
@@ -35,6 +35,10 @@ GoodMeans = (p : State) → (bad-state p ≡ false) ↔ Good p
 
 abbrev pub AcceptedMeans : Type 0
 AcceptedMeans = (p : State) (seg : List ℕ) (room : ℕ) → (judged p seg room ≡ pass) ↔ Accepted p seg room
+
+-- of one range or more; of none it is 0, below which no end lies
+abbrev pub GreatestMeans : Type 0
+GreatestMeans = (r : TpRange) (rs : List TpRange) (x : ℕ) → (greatest-end (r ∷ rs) ≡ x) ↔ Greatest (r ∷ rs) x
 
 abbrev pub CompleteMeans : Type 0
 CompleteMeans = (p : State) → (complete p ≡ true) ↔ Complete p
@@ -94,6 +98,10 @@ RangesDepend = (p q : State) (seg b c : List ℕ) → step p seg b .answer ≡ p
 abbrev pub NeverMalformed : Type 0
 NeverMalformed = (p : State) → Reached p → Good p
 
+-- where an end is known it is the greatest end held: a range reaches it, and none passes it
+abbrev pub EndIsGreatest : Type 0
+EndIsGreatest = (p : State) → Reached p → (e : ℕ) → p .end ≡ Known e → Greatest (p .ranges) e
+
 -- what segments, accepted or refused, leave of a fresh stream over a buffer
 pub record Run (limit : ℕ) (buf : List ℕ) (ss : List (List ℕ)) : Type 0 where
   pub good : Good (fed (opened limit buf) ss .state)
@@ -122,6 +130,17 @@ pub record Given (o : Out) (segs : List (List ℕ)) : Type 0 where
 abbrev pub EveryReport : Type 0
 EveryReport = (limit : ℕ) (buf : List ℕ) (ss : List (List ℕ)) → complete (fed (opened limit buf) ss .state) ≡ true → Given (fed (opened limit buf) ss) (admitted (opened limit buf) ss)
 
+-- its one range ends at the known end, which is the end of a final segment that was accepted; the report has 16 plus that end bytes
+pub record Closed (o : Out) (segs : List (List ℕ)) : Type 0 where
+  pub end : ℕ
+  pub known : o .state .end ≡ Known end
+  pub one-range : o .state .ranges ≡ range 0 end ∷ []
+  pub whole : WholeEnds segs end
+  pub report-length : length (taking (o .state) (o .buffer) .part) ≡ 16 + end
+
+abbrev pub EveryEnd : Type 0
+EveryEnd = (limit : ℕ) (buf : List ℕ) (ss : List (List ℕ)) → complete (fed (opened limit buf) ss .state) ≡ true → Closed (fed (opened limit buf) ss) (admitted (opened limit buf) ss)
+
 -- ---- the order of the ranges is not seen: well-formed states with the same set of ranges differ only in it
 abbrev pub SetIsOrder : Type 0
 SetIsOrder = (p q : State) → Good p → Good q → SameSet (p .ranges) (q .ranges) → Rearranged (p .ranges) (q .ranges)
@@ -146,6 +165,7 @@ pub record Theorems : Type 0 where
   pub header-means : HeaderMeans
   pub good-means : GoodMeans
   pub accepted-means : AcceptedMeans
+  pub greatest-means : GreatestMeans
   pub complete-means : CompleteMeans
   -- what is refused, and in which order
   pub rules-followed : RulesFollowed
@@ -158,8 +178,10 @@ pub record Theorems : Type 0 where
   pub joining-order-unseen : JoiningOrderUnseen
   pub ranges-depend : RangesDepend
   pub never-malformed : NeverMalformed
+  pub end-is-greatest : EndIsGreatest
   pub every-run : EveryRun
   pub every-report : EveryReport
+  pub every-end : EveryEnd
   pub set-is-order : SetIsOrder
   pub order-unseen : OrderUnseen
   pub runs-alike : RunsAlike

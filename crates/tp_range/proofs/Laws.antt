@@ -1,5 +1,5 @@
 -- Laws of ranges for the loops over an array of them: one range more, and what is left. Assumes nothing.
-use Prim.Native.Nat.{ℕ, suc, _+_, _≤_, _<_, min}
+use Prim.Native.Nat.{ℕ, suc, _+_, _≤_, _<_, min, max}
 use mathlib.Core.Path.{_≡_, refl, sym, ap, _∙_}
 use mathlib.Core.Bool.{Bool, true, false}
 use mathlib.Core.List.{List, [], _∷_, _++_, append-nil, append-assoc}
@@ -11,7 +11,7 @@ use lib.ListN.{length, take, drop, getD, set, length-append, length-take, length
 use lib.Dec.{ltb, leb}
 use lib.Seq.{take-suc, drop-cons, slice-cons, take-all, set-append-seam}
 use Rattle.tp_machine.specs.declared.TpRange.{TpRange}
-use Rattle.tp_machine.specs.Ranges.{any, touch, hull-of, unless, keep, grow-if, grow, joined, some-touch}
+use Rattle.tp_machine.specs.Ranges.{any, touch, hull-of, unless, keep, grow-if, grow, joined, some-touch, greatest-end}
 use Rattle.tp_machine.specs.Machine.{most}
 use Rattle.tp_range.specs.Joining.{none, placed, fitted, joined-in}
 
@@ -80,6 +80,12 @@ take-places array count l = go (leb count most) refl
         let h : most ≤ count = omega (arith, leb-false count most e) in
         ap (λ (n : ℕ). take n array) (min-eq-right h) ∙ take-all most array (omega arith) ∙ sym (take-all count array (omega arith))
 
+-- the greatest end of what is held, before the first of them
+pub greatest-start : (array : List TpRange) (count held : ℕ) → length array ≡ most → held ≡ min count most → max 0 (greatest-end (take held array)) ≡ greatest-end (take count array)
+greatest-start array count held l e =
+    let all : greatest-end (take held array) ≡ greatest-end (take count array) = ap greatest-end (ap (λ (n : ℕ). take n array) e ∙ take-places array count l) in
+    omega (arith, all)
+
 -- ---- the end of joining: the grown range goes behind those that are kept, where there is a place
 module _ (array : List TpRange) (count : ℕ) (long : length array ≡ most) where
   fitted-in : (rs : List TpRange) → length rs ≤ most → record { full = false; ranges = over rs array; count = length rs } ≡ fitted array count rs
@@ -145,6 +151,11 @@ module _ (rs : List TpRange) (i n : ℕ) (d : TpRange) (h : i < n) (k : n ≤ le
   unfolding some-touch
   touch-miss e = rw (front, e)
 
+  -- the greatest end so far is x, and with this one y
+  pub greatest-next : (x y : ℕ) → y ≡ max x (getD rs i d .end) → max y (greatest-end (drop (i + 1) (take n rs))) ≡ max x (greatest-end (drop i (take n rs)))
+  unfolding greatest-end
+  greatest-next x y e = rw (front, e) (omega arith)
+
 past-end : (rs : List TpRange) (i n : ℕ) → n ≤ i → drop i (take n rs) ≡ []
 past-end rs i n h =
     let k : length (take n rs) ≤ i = simp length-take (omega arith) in
@@ -157,3 +168,7 @@ any-end f rs i n h = rw (past-end rs i n h)
 pub touch-end : (rs : List TpRange) (i n : ℕ) → n ≤ i → some-touch (drop i (take n rs)) ≡ false
 unfolding some-touch
 touch-end rs i n h = rw (past-end rs i n h)
+
+pub greatest-done : (x : ℕ) (rs : List TpRange) (i n : ℕ) → n ≤ i → max x (greatest-end (drop i (take n rs))) ≡ x
+unfolding greatest-end
+greatest-done x rs i n h = rw (past-end rs i n h) (omega arith)

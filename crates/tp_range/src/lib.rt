@@ -1,9 +1,10 @@
-// Ranges of a payload that is being joined: which touch, and the joining step over an array by value, of which the first `count` are held.
+// Ranges of a payload that is being joined: which touch, how far they reach, and the joining step over an array by value, of which the first
+// `count` are held.
 // (tp_range.rs)
 ghost use mathlib.Core.Path.{_≡_};
 ghost use Prim.Native.Nat.{min, max};
 ghost use lib.ListN.{take};
-ghost use Rattle.tp_machine.specs.Ranges.{touch, hull-of, some-touch};
+ghost use Rattle.tp_machine.specs.Ranges.{touch, hull-of, some-touch, greatest-end};
 ghost use Rattle.tp_machine.specs.Machine.{most};
 ghost use Rattle.tp_range.specs.Joining.{joined-in};
 use tp_machine::TpRange;
@@ -113,4 +114,19 @@ pub fn some_touch(ranges: [TpRange; MAX_RANGES], count: usize) -> bool
         }
     }
     false
+}
+
+// The greatest end of the first `count`; 0 of none.
+pub fn greatest_end(ranges: [TpRange; MAX_RANGES], count: usize) -> u32
+    ensures { λ r. ⌜ r ≡ greatest-end (take count ranges) ⌝ }
+{
+    let held = places(count);
+    let mut end: u32 = 0;
+    let mut i: usize = 0;
+    while i < held {
+        let r = ranges[i];
+        i += 1;
+        end = greatest(end, r.end);
+    }
+    end
 }

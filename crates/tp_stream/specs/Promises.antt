@@ -1,14 +1,16 @@
 -- What is promised of a stream's calls. Assumes nothing: these are definitions.
 use Prim.Native.Nat.{ℕ, _+_, _≤_}
 use mathlib.Core.Path.{_≡_}
+use mathlib.Core.Bool.{_||_}
 use mathlib.Core.List.{List}
 use lib.ListN.{length}
+use lib.Dec.{ltb}
 use Rattle.numbers.specs.Refusals.{ranges-full}
 use Rattle.numbers.specs.Answers.{refused, pass, refuse_when_else_}
 use Rattle.refusal.specs.declared.answers.Count.{Count}
 use Rattle.refusal.specs.Said.{said, verdict-said, count-said}
 use Rattle.tp_machine.specs.Segments.{end-of}
-use Rattle.tp_machine.specs.Machine.{highest, State, Out, judged, too-many, step, begun, begin}
+use Rattle.tp_machine.specs.Machine.{highest, State, end-before, Out, judged, too-many, step, begun, begin}
 use Rattle.tp_machine.specs.Taking.{taking}
 use Rattle.tp_machine.specs.Meaning.{Good}
 use Rattle.tp_segment.specs.declared.TpHeader.{TpHeader}
@@ -39,6 +41,10 @@ pub record Took (s : TpStream) (buf : List ℕ) (r : Count) (after : List ℕ) :
   pub writes : after ≡ taking (view s) buf .buffer
 
 -- ---- between the parts of the code
+
+-- how far the ranges of a state may reach: an end is past it exactly where it is past the limit or past the known end
+abbrev pub Reach : State → ℕ → Type 0
+Reach p top = (x : ℕ) → ltb top x ≡ (ltb (p .limit) x || end-before (p .end) x)
 
 -- a segment that passed all tests but the one after joining
 pub record Passed (p : State) (seg : List ℕ) (room : ℕ) (h : TpHeader) : Type 0 where

@@ -1,9 +1,11 @@
 // The test before a stream is begun (36), and those before a segment is joined, in the rules' order: 38, 30, 31, 32, 33, 34. Each rule is a
 // function.
 ghost use mathlib.Core.Path.{_≡_};
-ghost use mathlib.Core.Bool.{_&&_, not};
+ghost use mathlib.Core.Bool.{_&&_, not, cond};
 ghost use Prim.Native.Nat.{_+_, _%_};
 ghost use lib.Dec.{eqb, ltb};
+ghost use lib.ListN.{take};
+ghost use Rattle.tp_machine.specs.Ranges.{greatest-end};
 ghost use Rattle.tp_machine.specs.Machine.{begun as begun-of, conflicts, previous};
 ghost use Rattle.refusal.specs.Said.{verdict-said};
 ghost use Rattle.tp_stream.specs.Stream.{view};
@@ -12,6 +14,8 @@ use crate::TpStream;
 use refusal::Refusal;
 use refusal::Verdict;
 use tp_machine::TpEnd;
+use tp_machine::TpRange;
+use tp_range::MAX_RANGES;
 use tp_segment::HEADER_LEN;
 use tp_segment::SegmentAnswer;
 use tp_segment::TpHeader;
@@ -74,6 +78,16 @@ pub fn previous_end(end: TpEnd) -> u32
     }
 }
 
+// 33: how far a segment has to reach: a final one to the greatest end of the ranges held.
+fn least_end(ranges: [TpRange; MAX_RANGES], count: usize, more: bool) -> u32
+    ensures { λ r. ⌜ r ≡ cond more 0 (greatest-end (take count ranges)) ⌝ }
+{
+    if more {
+        return 0;
+    }
+    tp_range::greatest_end(ranges, count)
+}
+
 // 34: how long a buffer must be for a payload that ends at x.
 pub(crate) fn needed(x: u32) -> usize
     ensures { λ r. ⌜ r ≡ 16 + x ⌝ }
@@ -109,6 +123,14 @@ pub(crate) fn judge(s: TpStream, seg: &[u8], room: usize) -> SegmentAnswer
     if conflicting(end, header.more, new) {
         let previous = previous_end(end);
         return SegmentAnswer::Refused(Refusal::ConflictingEnd { previous, new });
+    }
+    let ranges = s.ranges;
+    let least = least_end(ranges, s.count, header.more);
+    if new < least {
+        return SegmentAnswer::Refused(Refusal::ConflictingEnd {
+            previous: least,
+            new,
+        });
     }
     let needed = needed(new);
     if room < needed {

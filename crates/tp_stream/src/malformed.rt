@@ -1,10 +1,12 @@
 // Answer 38: whether a stream's state is malformed, each rule a function.
 ghost use mathlib.Core.Path.{_≡_};
+ghost use mathlib.Core.Bool.{false};
 ghost use Prim.Native.Nat.{_≤_};
 ghost use lib.ListN.{take};
 ghost use Rattle.tp_machine.specs.Ranges.{any};
 ghost use Rattle.tp_machine.specs.Machine.{most, State, bad-range, end-past, bad-state};
 ghost use Rattle.tp_stream.specs.Stream.{view};
+ghost use Rattle.tp_stream.specs.Promises.{Reach};
 use crate::TpStream;
 use tp_machine::TpEnd;
 use tp_machine::TpRange;
@@ -20,26 +22,37 @@ fn end_past(end: TpEnd, x: u32) -> bool
     }
 }
 
-// Whether a range is bad in a state of that limit.
-fn bad_range(limit: u32, r: TpRange) -> bool
-    ensures { λ b. ⌜ ((p : State) → p .limit ≡ limit → b ≡ bad-range p r) ⌝ }
+// How far ranges may reach: to the end that is known, which is not past the limit, else to the limit.
+fn reach(limit: u32, end: TpEnd) -> u32
+    requires { ⌜ end-past end limit ≡ false ⌝ }
+    ensures { λ r. ⌜ ((p : State) → p .limit ≡ limit → p .end ≡ end → Reach p r) ⌝ }
+{
+    match end {
+        TpEnd::Unknown => limit,
+        TpEnd::Known(e) => e,
+    }
+}
+
+// Whether a range is bad in a state whose ranges may reach to `top`.
+fn bad_range(top: u32, r: TpRange) -> bool
+    ensures { λ b. ⌜ ((p : State) → Reach p top → b ≡ bad-range p r) ⌝ }
 {
     if r.end < r.start {
         return true;
     }
-    limit < r.end
+    top < r.end
 }
 
 // Whether one of the ranges is bad.
-fn any_bad(limit: u32, ranges: [TpRange; MAX_RANGES], count: usize) -> bool
+fn any_bad(top: u32, ranges: [TpRange; MAX_RANGES], count: usize) -> bool
     requires { ⌜ count ≤ most ⌝ }
-    ensures { λ b. ⌜ ((p : State) → p .limit ≡ limit → b ≡ any (bad-range p) (take count ranges)) ⌝ }
+    ensures { λ b. ⌜ ((p : State) → Reach p top → b ≡ any (bad-range p) (take count ranges)) ⌝ }
 {
     let mut i: usize = 0;
     while i < count {
         let r = ranges[i];
         i += 1;
-        if bad_range(limit, r) {
+        if bad_range(top, r) {
             return true;
         }
     }
@@ -60,8 +73,9 @@ pub(crate) fn malformed(s: TpStream) -> bool
     if end_past(end, s.limit) {
         return true;
     }
+    let top = reach(s.limit, end);
     let ranges = s.ranges;
-    if any_bad(s.limit, ranges, s.count) {
+    if any_bad(top, ranges, s.count) {
         return true;
     }
     tp_range::some_touch(ranges, s.count)

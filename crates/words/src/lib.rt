@@ -194,6 +194,21 @@ fn lookup_words(refusal: Refusal, values: [u64; PLACES]) {
     }
 }
 
+// Two ends of one report: a final segment that ends too early, or a segment past the end that is known.
+fn end_words(early: bool, values: [u64; PLACES]) {
+    if early {
+        told(
+            b"a final segment ends at %1d, but the report is known to reach %0d",
+            values,
+        );
+    } else {
+        told(
+            b"a segment ends at %1d, but the report's end is known to be %0d",
+            values,
+        );
+    }
+}
+
 // A segment: 30 to 33.
 fn segment_words(refusal: Refusal, values: [u64; PLACES]) {
     match refusal {
@@ -215,13 +230,7 @@ fn segment_words(refusal: Refusal, values: [u64; PLACES]) {
             b"a segment of %1d bytes at offset %0d says that more follows; its length is then a multiple of 16",
             values,
         ),
-        Refusal::ConflictingEnd {
-            previous: _,
-            new: _,
-        } => told(
-            b"a segment ends at %1d, but the report's end is known to be %0d",
-            values,
-        ),
+        Refusal::ConflictingEnd { previous, new } => end_words(new < previous, values),
         _ => {}
     }
 }

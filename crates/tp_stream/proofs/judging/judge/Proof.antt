@@ -6,13 +6,15 @@ use native.Mathlib.Omega.{arith}
 use borrow.Author.Tests.{ltb-false}
 use Rattle.numbers.specs.Refusals.{conflicting-end}
 use Rattle.numbers.specs.Answers.{refused}
-use Rattle.tp_machine.specs.Machine.{highest, bad-state}
+use lib.ListN.{length}
+use Rattle.tp_machine.specs.Machine.{most, highest, bad-state}
 use Rattle.tp_segment.specs.declared.TpHeader.{TpHeader}
 use Rattle.tp_segment.specs.Reading.{segment-said}
 use Rattle.tp_segment.proofs.Laws.{reading-good}
 use Rattle.tp_stream.specs.Stream.{view}
 use Rattle.tp_machine.proofs.Tests.{good-means}
-use Rattle.tp_stream.proofs.JudgingLaws.{judged-malformed, judged-unread, past, uneven, Decides, decides}
+use Rattle.tp_stream.proofs.StreamLaws.{length-of-map}
+use Rattle.tp_stream.proofs.JudgingLaws.{least-held, judged-malformed, judged-unread, past, uneven, clash, least, Decides, decides}
 use borrow.Author.Needs.{needs}
 use Rattle.tp_stream.proofs.judging.judge.Statement.{statement}
 use Rattle.tp_stream.proofs.judging.judge.Tie as tie
@@ -36,6 +38,10 @@ module _ (c : tie.After-known-told) where
   by-tests =
       let read = reading-good (start .args .seg .now) header-read (ap segment-said (sym (c .before .answer .given .1)) ∙ at-read .read .ensures) in
       decides _ _ _ (good (at-read .before)) (read .0) header-read (read .1)
+
+-- the length of the stream's array
+long : (c : tie.Start) → length (c .args .s .ranges) ≡ most
+long c = search (needs, length-of-map)
 
 within : (c : tie.Else2) → past (view (start (c .before .before) .args .s)) (header-read (c .before .before)) ≡ false
 within c = sym (c .before .too-big .ensures) ∙ c .if2 .left
@@ -79,19 +85,44 @@ returns-5 c =
     by-tests (at-second .before .before) .conflict (within at-second) (aligned at-third) (sym (c .before .before .conflicting .ensures) ∙ c .before .if4 .taken)
     ∙ ap (λ (n : ℕ). refused (conflicting-end n (header .offset + header .size))) (sym (c .previous-end .ensures))
 
+-- behind the test of the end that is known: where the header was read, and how far the segment has to reach
+module _ (c : tie.After-least-end) where
+  abbrev at-fourth : tie.Else4
+  at-fourth = c .before .before
+
+  abbrev at-third : tie.Else3
+  at-third = at-fourth .before .before
+
+  abbrev at-second : tie.Else2
+  at-second = at-third .before .before
+
+  abbrev told : tie.After-known-told
+  told = at-second .before .before
+
+  no-clash : clash (view (start told .args .s)) (header-read told) ≡ false
+  no-clash = sym (at-fourth .before .conflicting .ensures) ∙ at-fourth .if4 .left
+
+  reaches : c .least-end .result ≡ least (view (start told .args .s)) (header-read told)
+  reaches = least-held (start told .args .s) (header-read told .more) _ (good (at-read told .before)) (long (start told)) (c .least-end .ensures)
+
 returns-6 : tie.Need-returns-6
 returns-6 c =
-    let at-fourth = c .before .before in
-    let at-third = at-fourth .before .before in
-    let at-second = at-third .before .before in
-    by-tests (at-second .before .before) .short (within at-second) (aligned at-third) (sym (at-fourth .before .conflicting .ensures) ∙ at-fourth .if4 .left) _ (c .before .needed .ensures) (c .if5 .taken)
+    let at-least = c .before in
+    by-tests (told at-least) .behind (within (at-second at-least)) (aligned (at-third at-least)) (no-clash at-least) _ (reaches at-least) (c .if5 .taken)
 
 returns-7 : tie.Need-returns-7
 returns-7 c =
-    let at-fourth = c .before .before in
-    let at-third = at-fourth .before .before in
-    let at-second = at-third .before .before in
-    by-tests (at-second .before .before) .passes (within at-second) (aligned at-third) (sym (at-fourth .before .conflicting .ensures) ∙ at-fourth .if4 .left) (omega (arith, c .before .needed .ensures, c .if5 .left))
+    let at-fifth = c .before .before in
+    let at-least = at-fifth .before in
+    by-tests (told at-least) .short (within (at-second at-least)) (aligned (at-third at-least)) (no-clash at-least) (omega (arith, reaches at-least, at-fifth .if5 .left))
+    _ (c .before .needed .ensures) (c .if6 .taken)
+
+returns-8 : tie.Need-returns-8
+returns-8 c =
+    let at-fifth = c .before .before in
+    let at-least = at-fifth .before in
+    by-tests (told at-least) .passes (within (at-second at-least)) (aligned (at-third at-least)) (no-clash at-least) (omega (arith, reaches at-least, at-fifth .if5 .left))
+    (omega (arith, c .before .needed .ensures, c .if6 .left))
 
 pub judge-spec : {M : Type 1} → statement M
 judge-spec =
@@ -114,4 +145,6 @@ judge-spec =
     returns-5
     (λ c κs. search needs)
     returns-6
-    returns-7)
+    (λ c κs. search needs)
+    returns-7
+    returns-8)

@@ -6,16 +6,17 @@ use lib.ListN.{length, take, drop}
 use Rattle.tp_range.specs.Joining.{none}
 use Rattle.tp_machine.specs.Ranges.{any}
 use Rattle.tp_machine.specs.Machine.{most, State, bad-range}
+use Rattle.tp_stream.specs.Promises.{Reach}
 use Rattle.tp_range.proofs.Laws.{any-hit, any-miss, any-end}
 use borrow.Author.Needs.{needs}
 use Rattle.tp_stream.proofs.malformed.any_bad.Statement.{statement}
 use Rattle.tp_stream.proofs.malformed.any_bad.Tie as tie
 
 abbrev Inv-loop : tie.InvT-loop
-Inv-loop limit count ranges i₀ i = (p : State) → p .limit ≡ limit → any (bad-range p) (drop i (take count ranges)) ≡ any (bad-range p) (take count ranges)
+Inv-loop top count ranges i₀ i = (p : State) → Reach p top → any (bad-range p) (drop i (take count ranges)) ≡ any (bad-range p) (take count ranges)
 
 abbrev μ-loop : tie.MeasureT-loop
-μ-loop limit count ranges i₀ i = count - i
+μ-loop top count ranges i₀ i = count - i
 
 long : (c : tie.Start Inv-loop μ-loop) → length (c .args .t2) ≡ most
 long c = search needs

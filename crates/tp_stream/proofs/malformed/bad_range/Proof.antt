@@ -4,10 +4,10 @@ use Rattle.tp_stream.proofs.malformed.bad_range.Statement.{statement}
 use Rattle.tp_stream.proofs.malformed.bad_range.Tie as tie
 
 returns : tie.Need-returns
-returns c = λ p e. bad-early p _ (c .if1 .taken)
+returns c = λ p reach. bad-early p _ (c .if1 .taken)
 
 returns-2 : tie.Need-returns-2
-returns-2 c = λ p e. bad-late p _ _ e (c .before .if1 .left)
+returns-2 c = λ p reach. bad-late p _ _ reach (c .before .if1 .left)
 
 pub bad-range-spec : {M : Type 1} → statement M
 bad-range-spec = tie.close (tie.spec returns returns-2)
