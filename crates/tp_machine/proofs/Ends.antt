@@ -14,10 +14,10 @@ use Rattle.tp_machine.specs.Lists.{OneOf}
 use Rattle.tp_machine.specs.Segments.{more, end-of}
 use Rattle.tp_machine.specs.Ranges.{any, greatest-end}
 use Rattle.tp_machine.specs.Machine.{State, taken, judged, Out, after, step, begin, opened, fed, clear, previous}
-use Rattle.tp_machine.specs.Taking.{is-known}
+use Rattle.tp_machine.specs.Taking.{is-known, end-held}
 use Rattle.tp_machine.specs.Meaning.{range, range-of, Agrees, Greatest, Accepted}
 use Rattle.tp_machine.specs.Runs.{Reached, begins, comes, clears, admitted, final, around, Lies, Ended}
-use Rattle.tp_machine.specs.Theorems.{EndIsGreatest, EveryEnd}
+use Rattle.tp_machine.specs.Theorems.{EndIsGreatest, CompleteEnds, EveryEnd}
 use Rattle.tp_machine.proofs.Lists.{each-one, latest-of, all-latest}
 use Rattle.tp_machine.proofs.Joining.{lies-around}
 use Rattle.tp_machine.proofs.Greatest.{none-past-means, greatest-told, joining-reaches, joined-greatest}
@@ -56,6 +56,14 @@ end-is-greatest p (begins limit) = λ e q. absurd (false≢true (ap is-known q))
 end-is-greatest q (comes {p} r seg buf) = step-kept p seg buf (end-is-greatest p r)
 end-is-greatest q (clears {p} r) = λ e k. absurd (false≢true (ap is-known k))
 
+pub complete-ends : CompleteEnds
+unfolding greatest-end
+complete-ends p r c =
+    let w = complete-means p .0 c in
+    let reach : greatest-end (p .ranges) ≡ w .end = greatest-told (p .ranges) (w .end) (end-is-greatest p r (w .end) (w .known)) in
+    let held : greatest-end (p .ranges) ≡ w .held = ap greatest-end (w .one-range) ∙ omega arith in
+    (w .end, w .known, w .one-range ∙ ap (λ (x : ℕ). range 0 x ∷ []) (sym held ∙ reach))
+
 fed-reached : (o : Out) (ss : List (List ℕ)) → Reached (o .state) → Reached (fed o ss .state)
 unfolding fed
 fed-reached o [] r = r
@@ -79,27 +87,24 @@ unfolding any
 lies-within e s h = lies-around s (range 0 e) (sym (or-false (around s (range 0 e))) ∙ h) .1
 
 pub every-end : EveryEnd
-unfolding greatest-end
 every-end limit buf ss c =
     let p : State = fed (opened limit buf) ss .state in
     let segs : List (List ℕ) = admitted (opened limit buf) ss in
     let run = every-run limit buf ss in
     let w = complete-means p .0 c in
-    let reach : greatest-end (p .ranges) ≡ w .end = greatest-told (p .ranges) (w .end) (end-is-greatest p (fed-reached (opened limit buf) ss (begins limit)) (w .end) (w .known)) in
-    let held : greatest-end (p .ranges) ≡ w .held = ap greatest-end (w .one-range) ∙ omega arith in
-    let same : w .held ≡ w .end = sym held ∙ reach in
-    let one : p .ranges ≡ range 0 (w .end) ∷ [] = w .one-range ∙ ap (λ (x : ℕ). range 0 x ∷ []) same in
-    let last = told-by segs (p .end) (w .end) (run .ended) (w .known) in
+    let (e, known, one) = complete-ends p (fed-reached (opened limit buf) ss (begins limit)) c in
+    let same : w .held ≡ e = ap end-held (sym (w .one-range) ∙ one) in
+    let last = told-by segs (p .end) e (run .ended) known in
     record {
-      end = w .end;
-      known = w .known;
+      end = e;
+      known = known;
       one-range = one;
       whole = record {
         last = last .0;
         among = last .1;
         is-final = last .2;
         there = last .3;
-        none-past = all-map (Lies (range 0 (w .end) ∷ [])) (λ s. end-of s ≤ w .end) (lies-within (w .end)) segs (subst (λ (rs : List TpRange). All (Lies rs) segs) one (run .lie));
+        none-past = all-map (Lies (range 0 e ∷ [])) (λ s. end-of s ≤ e) (lies-within e) segs (subst (λ (rs : List TpRange). All (Lies rs) segs) one (run .lie));
       };
       report-length = report-length limit buf ss w ∙ ap (λ (x : ℕ). 16 + x) same;
     }

@@ -8,7 +8,7 @@ use Rattle.tp_machine.proofs.Joining.{joining-covers, joining-order-uns
 use Rattle.tp_machine.proofs.Greatest.{greatest-means}
 use Rattle.tp_machine.proofs.Runs.{every-run}
 use Rattle.tp_machine.proofs.Report.{every-report}
-use Rattle.tp_machine.proofs.Ends.{end-is-greatest, every-end}
+use Rattle.tp_machine.proofs.Ends.{end-is-greatest, complete-ends, every-end}
 use Rattle.tp_machine.proofs.Unseen.{set-is-order, order-unseen, runs-alike}
 use Rattle.tp_machine.proofs.Order.{order}
 use Rattle.tp_machine.proofs.Cases.{cases}
@@ -33,6 +33,7 @@ theorems = record {
   ranges-depend = ranges-depend;
   never-malformed = never-malformed;
   end-is-greatest = end-is-greatest;
+  complete-ends = complete-ends;
   every-run = every-run;
   every-report = every-report;
   every-end = every-end;

@@ -102,6 +102,10 @@ NeverMalformed = (p : State) → Reached p → Good p
 abbrev pub EndIsGreatest : Type 0
 EndIsGreatest = (p : State) → Reached p → (e : ℕ) → p .end ≡ Known e → Greatest (p .ranges) e
 
+-- so a complete stream's one range ends at the known end
+abbrev pub CompleteEnds : Type 0
+CompleteEnds = (p : State) → Reached p → complete p ≡ true → (e : ℕ) × (p .end ≡ Known e) × (p .ranges ≡ range 0 e ∷ [])
+
 -- what segments, accepted or refused, leave of a fresh stream over a buffer
 pub record Run (limit : ℕ) (buf : List ℕ) (ss : List (List ℕ)) : Type 0 where
   pub good : Good (fed (opened limit buf) ss .state)
@@ -130,7 +134,8 @@ pub record Given (o : Out) (segs : List (List ℕ)) : Type 0 where
 abbrev pub EveryReport : Type 0
 EveryReport = (limit : ℕ) (buf : List ℕ) (ss : List (List ℕ)) → complete (fed (opened limit buf) ss .state) ≡ true → Given (fed (opened limit buf) ss) (admitted (opened limit buf) ss)
 
--- its one range ends at the known end, which is the end of a final segment that was accepted; the report has 16 plus that end bytes
+-- its one range ends at the known end, which is the end of a final segment that was accepted, and none that was ends past it; the report has 16
+-- plus that end bytes
 pub record Closed (o : Out) (segs : List (List ℕ)) : Type 0 where
   pub end : ℕ
   pub known : o .state .end ≡ Known end
@@ -179,6 +184,7 @@ pub record Theorems : Type 0 where
   pub ranges-depend : RangesDepend
   pub never-malformed : NeverMalformed
   pub end-is-greatest : EndIsGreatest
+  pub complete-ends : CompleteEnds
   pub every-run : EveryRun
   pub every-report : EveryReport
   pub every-end : EveryEnd

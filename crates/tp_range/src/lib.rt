@@ -1,6 +1,5 @@
 // Ranges of a payload that is being joined: which touch, how far they reach, and the joining step over an array by value, of which the first
-// `count` are held.
-// (tp_range.rs)
+// `count` are held. (tp_range.rs)
 ghost use mathlib.Core.Path.{_≡_};
 ghost use Prim.Native.Nat.{min, max};
 ghost use lib.ListN.{take};
