@@ -822,6 +822,30 @@ mod tests {
         }
     }
 
+    /// Sequences in which a final segment ends behind data held come last, the smallest first, each with 33 as the rules have it.
+    #[test]
+    fn ends_behind_the_data_come_last() {
+        let list = streams(1);
+        assert!(list.left_out >= KEPT_BEHIND);
+        let file = list.file(b"VIADTP01");
+        let records = walked(&file);
+        let begin = |(at, record): (usize, &&[u8])| (record[0] == Kind::Begin as u8).then_some(at);
+        let begins: Vec<usize> = records.iter().enumerate().filter_map(begin).collect();
+        let smallest = begins[begins.len() - 1 - KEPT_BEHIND];
+        // Begun, two segments accepted, the third refused by 33 (32, 16): two values, and nine checks, of which the fourth says that one range is held.
+        assert_eq!(records[smallest + 1][2], 0);
+        assert_eq!(records[smallest + 2][2], 0);
+        let refused = records[smallest + 3];
+        assert_eq!(refused[..6], [Kind::Segment as u8, 0, 33, 0, 2, 9]);
+        assert_eq!(refused[6..14], [0, 0, 0, 32, 0, 0, 0, 16]);
+        assert_eq!(refused[26..30], [0, 0, 0, 1]);
+        for at in &begins[begins.len() - KEPT_BEHIND..] {
+            let behind = records[at + 1..].iter().find(|record| record[2] == 33);
+            let values = &behind.expect("one of them is refused")[6..14];
+            assert!(values[4..] < values[..4], "{values:?}");
+        }
+    }
+
     #[test]
     fn every_number_is_recorded_often() {
         let list = service_discovery(1);

@@ -89,17 +89,9 @@ impl<'a, P: Calls> Tp<'a, P> {
         self.state_is(&stream, &lent, &touched, sequence, 0);
         let differences = self.tally.differences;
         let mut most = 0;
-        for (number, step) in sequence.steps.iter().enumerate() {
+        for number in 0..sequence.steps.len() {
             let due = ends::due(&behind, number);
-            let held = self.step(
-                step,
-                due,
-                &mut stream,
-                &mut lent,
-                &mut touched,
-                sequence,
-                number,
-            );
+            let held = self.step(due, &mut stream, &mut lent, &mut touched, sequence, number);
             most = most.max(held);
             if self.tally.differences > differences {
                 return;
@@ -111,10 +103,8 @@ impl<'a, P: Calls> Tp<'a, P> {
     }
 
     /// One step, with the answer that is due by the rules alone, if it is; answers how many ranges the crate holds after it.
-    #[allow(clippy::too_many_arguments)]
     fn step(
         &mut self,
-        step: &Step,
         due: Option<Answer>,
         stream: &mut Stream,
         lent: &mut Lent,
@@ -123,7 +113,7 @@ impl<'a, P: Calls> Tp<'a, P> {
         number: usize,
     ) -> usize {
         let held = lent.state;
-        match step {
+        match &sequence.steps[number] {
             Step::Segment(segment) => {
                 let want = match due {
                     Some(answer) => self.refused_by_rules(stream, segment, answer),
