@@ -104,8 +104,8 @@ pub enum Refusal {
     /// 32: more follows, and the segment's length is no multiple of 16.
     #[allow(missing_docs)]
     UnalignedTpPayloadLen { offset: u32, payload_len: usize },
-    /// 33: a segment passes the known end, or is a final one with another end; or a final one ends behind data that is held, and the previous end is
-    /// then the greatest end held, which someip_parse does not refuse.
+    /// 33: a segment passes the known end, or is a final one with another end. Or a final one ends below data that is held, which someip_parse takes: the
+    /// previous end is then the greatest end held.
     #[allow(missing_docs)]
     ConflictingEnd {
         previous_end: u32,
