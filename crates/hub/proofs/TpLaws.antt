@@ -8,7 +8,6 @@ use mathlib.Core.Logic.{_↔_, inl}
 use native.Mathlib.Omega.{arith}
 use borrow.Author.Tests.{lt-ltb, le-ltb}
 use lib.ListN.{length, take, getD}
-use lib.Seq.{length-take-le}
 use Rattle.numbers.specs.Refusals.{malformed-state}
 use Rattle.numbers.specs.Answers.{given}
 use Rattle.numbers.specs.Answers as paper
@@ -23,7 +22,7 @@ use Rattle.tp_machine.specs.Machine.{most, State, Out, begun, begin, step, open
 use Rattle.tp_machine.specs.Taking.{Taken, complete, end-held, ready, finished, report, taking}
 use Rattle.tp_machine.specs.Meaning.{Complete}
 use Rattle.tp_machine.specs.Runs.{admitted, WholeEnds, Reported}
-use Rattle.tp_machine.proofs.Steps.{every-step}
+use Rattle.tp_machine.proofs.Steps.{every-step, ready-tells, finished-length, part-length}
 use Rattle.tp_machine.proofs.Tests as tests
 use Rattle.tp_machine.proofs.Report.{every-report}
 use Rattle.tp_machine.proofs.Ends.{every-end}
@@ -31,8 +30,6 @@ use Rattle.tp_stream.specs.declared.TpStream.{TpStream}
 use Rattle.tp_stream.specs.declared.TpStep.{TpStep}
 use Rattle.tp_stream.specs.Stream.{view, stored, blank}
 use Rattle.tp_stream.specs.Promises.{seen, Began, Ran, Took}
-use Rattle.tp_stream.proofs.TakingLaws.{ready-tells}
-use Rattle.tp_stream.proofs.Follows.{finished-length}
 use Rattle.tp_words.specs.Words.{size, unfit, stream-of, state-of, put}
 use Rattle.tp_words.proofs.PutLaws.{fit}
 use Rattle.tp_words.proofs.Holding.{words-hold}
@@ -137,7 +134,7 @@ in-front p buf end e =
     let long : length (finished (ready p (length buf)) buf) ≡ length buf = finished-length p buf (ready p (length buf)) refl in
     let part : take (16 + end) (finished (ready p (length buf)) buf) ≡ taking p buf .part = ap (λ (a : paper.Answer ℕ). report a (finished (ready p (length buf)) buf)) (sym e) in
     let within : 16 + end ≤ length (finished (ready p (length buf)) buf) = omega arith in
-    record { within = within; told-length = sym (ap length part) ∙ length-take-le (16 + end) (finished (ready p (length buf)) buf) within; part = part }
+    record { within = within; told-length = part-length p buf end e; part = part }
 
 module _ (ws buf : List ℕ) (s : TpStream) (is : s ≡ stream-of ws) (t : Count) (buf′ : List ℕ) (took : Took s buf t buf′) where
   same : count-said t ≡ taking (state-of ws) buf .answer

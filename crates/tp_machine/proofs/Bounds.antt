@@ -53,7 +53,7 @@ bounds = record {
     ranges-apart = refl;
     ranges-touch = refl;
   };
-  past-its-end = record { comes = refl; incomplete = refl; taken = refl; cleared = refl };
+  overrun-refused = record { comes = refl; incomplete = refl; taken = refl; cleared = refl };
   highest = (refl, refl);
   too-high = (refl, refl);
   room = refl;

@@ -22,8 +22,9 @@ use Rattle.tp_machine.proofs.Lists.{each-one, latest-of, all-latest}
 use Rattle.tp_machine.proofs.Joining.{lies-around}
 use Rattle.tp_machine.proofs.Greatest.{none-past-means, greatest-told, joining-reaches, joined-greatest}
 use Rattle.tp_machine.proofs.Tests.{accepted-means, complete-means}
+use Rattle.tp_machine.proofs.Steps.{part-length}
 use Rattle.tp_machine.proofs.Runs.{every-run}
-use Rattle.tp_machine.proofs.Report.{report-length}
+use Rattle.tp_machine.proofs.Report.{every-report}
 
 -- ---- the greatest end held
 
@@ -91,9 +92,9 @@ every-end limit buf ss c =
     let p : State = fed (opened limit buf) ss .state in
     let segs : List (List ℕ) = admitted (opened limit buf) ss in
     let run = every-run limit buf ss in
-    let w = complete-means p .0 c in
+    let given = every-report limit buf ss c in
     let (e, known, one) = complete-ends p (fed-reached (opened limit buf) ss (begins limit)) c in
-    let same : w .held ≡ e = ap end-held (sym (w .one-range) ∙ one) in
+    let same : given .size ≡ e = ap end-held (sym (given .one-range) ∙ one) in
     let last = told-by segs (p .end) e (run .ended) known in
     record {
       end = e;
@@ -106,5 +107,5 @@ every-end limit buf ss c =
         there = last .3;
         none-past = all-map (Lies (range 0 e ∷ [])) (λ s. end-of s ≤ e) (lies-within e) segs (subst (λ (rs : List TpRange). All (Lies rs) segs) one (run .lie));
       };
-      report-length = report-length limit buf ss w ∙ ap (λ (x : ℕ). 16 + x) same;
+      report-length = part-length p (fed (opened limit buf) ss .buffer) (given .size) (given .answer) ∙ ap (λ (x : ℕ). 16 + x) same;
     }

@@ -71,7 +71,7 @@ grow-reaches n g (r ∷ rs) = go (λ h. grow-reaches n h rs) (touch n r)
     go later true = later (hull-of g r) ∙ omega arith
     go later false = omega (arith, later g)
 
-pub behind-reaches : (xs : List TpRange) (g : TpRange) → greatest-end (xs ++ (g ∷ [])) ≡ max (g .end) (greatest-end xs)
+behind-reaches : (xs : List TpRange) (g : TpRange) → greatest-end (xs ++ (g ∷ [])) ≡ max (g .end) (greatest-end xs)
 unfolding greatest-end
 behind-reaches [] g = refl
 behind-reaches (x ∷ xs) g = omega (arith, behind-reaches xs g)

@@ -24,7 +24,7 @@ use Rattle.tp_machine.specs.Theorems.{Given, EveryReport}
 use Rattle.tp_machine.proofs.Lists.{latest-of, all-latest}
 use Rattle.tp_machine.proofs.Joining.{at-zero, is-held}
 use Rattle.tp_machine.proofs.Tests.{good-means, complete-means}
-use Rattle.tp_machine.proofs.Writing.{pasted-length, take-more-pasted, header-length}
+use Rattle.tp_machine.proofs.Writing.{take-more-pasted, header-length}
 use Rattle.tp_machine.proofs.Runs.{ran, all-heads, all-each, Fits, chain-fits, every-run}
 
 -- ---- taking from a complete state, with room
@@ -96,19 +96,13 @@ module _ (limit : ℕ) (buf : List ℕ) (ss : List (List ℕ)) where
   unfolding out segs any
   covers e x q h = sym (every-run limit buf ss .covers x) ∙ ap (λ (rs : List TpRange). covered rs x) q ∙ ap (λ (t : Bool). t || false) (is-held x (range 0 e) (omega arith) h)
 
-  -- the buffer has room for it
-  room : (c : Complete (out .state)) → 16 + c .held ≤ length (out .buffer)
-  unfolding out
-  room c =
-      let h : 16 + c .held ≤ length buf = subst (All (λ r. 16 + r .end ≤ length buf)) (c .one-range) ranges-fit .0 in
-      omega (arith, every-run limit buf ss .filled .size)
-
   complete-given : Complete (out .state) → Given out segs
   unfolding out segs taking
   complete-given c =
       let e : ℕ = c .held in
       let run = every-run limit buf ss in
-      let l : 16 + e ≤ length (out .buffer) = room c in
+      let h : 16 + e ≤ length buf = subst (All (λ r. 16 + r .end ≤ length buf)) (c .one-range) ranges-fit .0 in
+      let l : 16 + e ≤ length (out .buffer) = omega (arith, run .filled .size) in
       let g : ready (out .state) (length (out .buffer)) ≡ accepted e = ready-given (out .state) (out .buffer) c l in
       record {
         size = e;
@@ -118,19 +112,6 @@ module _ (limit : ℕ) (buf : List ℕ) (ss : List (List ℕ)) where
         reported = rw g (reported buf segs (out .buffer) (run .filled) e l all-fit (has-header e (c .one-range)) (λ x. covers e x (c .one-range)));
       }
 
-  complete-length : (c : Complete (out .state)) → length (taking (out .state) (out .buffer) .part) ≡ 16 + c .held
-  unfolding taking given
-  complete-length c =
-      let e : ℕ = c .held in
-      let n : length (pasted (out .buffer) 4 (be32 (e + 8))) ≡ length (out .buffer) = pasted-length (out .buffer) 4 (be32 (e + 8)) (omega (arith, room c, field-length (e + 8))) in
-      rw (ready-given (out .state) (out .buffer) c (room c)) (length-take-le (16 + e) (pasted (out .buffer) 4 (be32 (e + 8))) (omega (arith, room c)))
-
 pub every-report : EveryReport
 unfolding out segs
 every-report limit buf ss c = complete-given limit buf ss (complete-means (fed (opened limit buf) ss .state) .0 c)
-
--- and has 16 plus the range's end bytes
-pub report-length : (limit : ℕ) (buf : List ℕ) (ss : List (List ℕ)) (c : Complete (fed (opened limit buf) ss .state))
-    → length (taking (fed (opened limit buf) ss .state) (fed (opened limit buf) ss .buffer) .part) ≡ 16 + c .held
-unfolding out
-report-length = complete-length

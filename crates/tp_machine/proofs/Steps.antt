@@ -1,25 +1,28 @@
 -- One call: what it leaves when it accepts and when it refuses, that it reads none of the buffer's bytes, on what the
--- ranges after it depend, and that no malformed state is come to.
+-- ranges after it depend, how long a report is, and that no malformed state is come to.
 -- Assumes nothing.
-use Prim.Native.Nat.{ℕ, _≤_}
-use mathlib.Core.Path.{_≡_, refl, sym, ap, _∙_}
+use Prim.Native.Nat.{ℕ, _+_, _≤_}
+use mathlib.Core.Path.{_≡_, refl, sym, ap, subst, _∙_}
 use mathlib.Core.Bool.{Bool, true, false}
 use mathlib.Core.List.{List, [], _∷_}
 use native.Mathlib.Omega.{arith}
 use borrow.Author.Tests.{ltb-false, lt-ltb, le-ltb, not-false}
 use lib.Dec.{ltb}
-use lib.ListN.{length}
+use lib.ListN.{length, take}
+use lib.Seq.{length-take-le}
+use Rattle.numbers.specs.Bytes.{be16, be32}
 use Rattle.numbers.specs.Refusals.{Refusal}
-use Rattle.numbers.specs.Answers.{Answer, accepted, refused, Verdict, pass, given}
+use Rattle.numbers.specs.Answers.{Answer, accepted, refused, Verdict, pass, given, All}
 use Rattle.numbers.proofs.AnswerLaws.{not-refused, accepted-inj, when-accepted}
 use Rattle.tp_machine.specs.Segments.{written}
 use Rattle.tp_machine.specs.Machine.{highest, State, fresh, taken, judged, after, step, begin, clear}
 use Rattle.tp_machine.specs.Taking.{complete, end-held, ready, finished, report, taking}
-use Rattle.tp_machine.specs.Meaning.{range, range-of, Good}
+use Rattle.tp_machine.specs.Meaning.{range, range-of, Fine, Good, Complete}
 use Rattle.tp_machine.specs.Runs.{begins, comes, clears}
 use Rattle.tp_machine.specs.Theorems.{Stepped, EveryStep, TakenFrom, EveryTaking, Empties, BytesUnseen, RangesDepend, NeverMalformed}
 use Rattle.tp_machine.proofs.Joining.{joining-order-unseen}
 use Rattle.tp_machine.proofs.Tests.{accepted-means, complete-means, taken-good}
+use Rattle.tp_machine.proofs.Writing.{pasted-length}
 
 -- ---- one call
 pub every-step : EveryStep
@@ -54,16 +57,24 @@ step-refused p seg buf r e = rw e
 
 -- ---- taking
 
--- the range of a stream that is ready
-ready-range : (p : State) (room e : ℕ) → ready p room ≡ accepted e → p .ranges ≡ range 0 e ∷ []
+-- a stream that is ready: it is complete, with one range that ends at e, and the buffer has room
+ready-means : (p : State) (room e : ℕ) → ready p room ≡ accepted e → Complete p × (p .ranges ≡ range 0 e ∷ []) × (16 + e ≤ room)
 unfolding ready
-ready-range p room e h =
+ready-means p room e h =
     let (a, k) = when-accepted _ _ _ e h in
     let (b, l) = when-accepted _ _ _ e k in
     let (c, m) = when-accepted _ _ _ e l in
     let w = complete-means p .0 (not-false (complete p) b) in
     let held : end-held (p .ranges) ≡ w .held = ap end-held (w .one-range) in
-    w .one-range ∙ ap (λ (x : ℕ). range 0 x ∷ []) (sym held ∙ accepted-inj _ e m)
+    let ends : end-held (p .ranges) ≡ e = accepted-inj _ e m in
+    (w, w .one-range ∙ ap (λ (x : ℕ). range 0 x ∷ []) (sym held ∙ ends), omega (arith, ltb-false room (16 + end-held (p .ranges)) c))
+
+-- what an end that is given tells: the report fits the buffer, and is no longer than a limit
+pub ready-tells : (p : State) (room e : ℕ) → accepted e ≡ ready p room → (16 + e ≤ room) × (e ≤ highest)
+ready-tells p room e q =
+    let (w, one, fits) = ready-means p room e (sym q) in
+    let fine : All (Fine p) (range 0 e ∷ []) = subst (All (Fine p)) one (w .good .each) in
+    (fits, omega (arith, fine .0 .within, w .good .low))
 
 pub every-taking : EveryTaking
 unfolding taking given
@@ -72,10 +83,24 @@ every-taking p buf = go (ready p (length buf)) refl
     go : (a : Answer ℕ) → ready p (length buf) ≡ a → TakenFrom p buf (record { answer = a; buffer = finished a buf; part = report a (finished a buf) })
     go (accepted e) h = record {
       answer = sym h;
-      accepts = λ x q. let same : e ≡ x = accepted-inj e x q in rw (← same) (ready-range p (length buf) e h, refl, refl);
+      accepts = λ x q. let same : e ≡ x = accepted-inj e x q in rw (← same) (ready-means p (length buf) e h .1, refl, refl);
       refuses = λ r q. not-refused r e (sym q);
     }
     go (refused r) h = record { answer = sym h; accepts = λ x q. not-refused r x q; refuses = λ _ _. (refl, refl) }
+
+-- the length field leaves the buffer's length
+pub finished-length : (p : State) (buf : List ℕ) (a : Answer ℕ) → a ≡ ready p (length buf) → length (finished a buf) ≡ length buf
+unfolding be32 be16
+finished-length p buf (accepted e) q = pasted-length buf 4 (be32 (e + 8)) (omega (arith, ready-tells p (length buf) e q))
+finished-length p buf (refused r) q = refl
+
+-- a report has 16 plus its end bytes
+pub part-length : (p : State) (buf : List ℕ) (e : ℕ) → taking p buf .answer ≡ accepted e → length (taking p buf .part) ≡ 16 + e
+unfolding taking
+part-length p buf e q =
+    let long : length (finished (ready p (length buf)) buf) ≡ length buf = finished-length p buf (ready p (length buf)) refl in
+    let part : taking p buf .part ≡ take (16 + e) (finished (ready p (length buf)) buf) = every-taking p buf .accepts e q .2 in
+    ap length part ∙ length-take-le (16 + e) (finished (ready p (length buf)) buf) (omega (arith, ready-tells p (length buf) e (sym q)))
 
 -- ---- a stream that is begun or cleared holds nothing
 pub empties : Empties

@@ -136,14 +136,14 @@ pub record Malformed : Type 0 where
   pub ranges-touch : bad-state (holding-these 64 (range 0 1 ∷ range 1 2 ∷ []) Unknown) ≡ true
 
 -- a state with a range past its end, which would else be complete: 38, and nothing is written
-abbrev pub past-end : State
-past-end = holding-these 64 (range 0 32 ∷ []) (Known 16)
+abbrev pub overrun : State
+overrun = holding-these 64 (range 0 32 ∷ []) (Known 16)
 
-pub record PastEnd : Type 0 where
-  pub comes : step past-end (16 final-at 0) (replicate 80 9) ≡ record { answer = refused (refusal 38 []); state = past-end; buffer = replicate 80 9 }
-  pub incomplete : complete past-end ≡ false
-  pub taken : taking past-end (replicate 80 9) ≡ record { answer = refused (refusal 38 []); buffer = replicate 80 9; part = [] }
-  pub cleared : clear past-end ≡ fresh 64
+pub record OverrunRefused : Type 0 where
+  pub comes : step overrun (16 final-at 0) (replicate 80 9) ≡ record { answer = refused (refusal 38 []); state = overrun; buffer = replicate 80 9 }
+  pub incomplete : complete overrun ≡ false
+  pub taken : taking overrun (replicate 80 9) ≡ record { answer = refused (refusal 38 []); buffer = replicate 80 9; part = [] }
+  pub cleared : clear overrun ≡ fresh 64
 
 pub record Bounds : Type 0 where
   pub cases : Hold unmarked
@@ -156,7 +156,7 @@ pub record Bounds : Type 0 where
   pub full : Full
   pub odd-even : OddEven
   pub malformed : Malformed
-  pub past-its-end : PastEnd
+  pub overrun-refused : OverrunRefused
   -- the highest limit, and one more
   pub highest : (begun 65520 ≡ pass) × (begin 65520 ≡ fresh 65520)
   pub too-high : (begun 65521 ≡ refused (refusal 36 (65521 ∷ []))) × (begin 65521 ≡ fresh 0)

@@ -1,22 +1,19 @@
 -- What the promises come to over the machine: the states begun and cleared are the machine's, calls one after the other run as the machine
 -- does, and the part that is handed out after taking is the machine's report. Assumes nothing.
-use Prim.Native.Nat.{ℕ, _+_}
+use Prim.Native.Nat.{ℕ}
 use mathlib.Core.Path.{_≡_, refl, sym, ap, _∙_}
 use mathlib.Core.List.{List, [], _∷_}
 use native.Mathlib.Omega.{arith}
 use lib.ListN.{length}
-use Rattle.numbers.specs.Bytes.{be16, be32}
-use Rattle.numbers.specs.Answers.{Answer, accepted, refused}
 use Rattle.refusal.specs.declared.answers.Count.{Count}
 use Rattle.tp_machine.specs.Machine.{State, Out, step, begin, fed, clear}
-use Rattle.tp_machine.specs.Taking.{ready, finished, report, taking}
-use Rattle.tp_machine.proofs.Writing.{pasted-length}
+use Rattle.tp_machine.specs.Taking.{ready, report, taking}
+use Rattle.tp_machine.proofs.Steps.{finished-length}
 use Rattle.tp_stream.specs.declared.TpStream.{TpStream}
 use Rattle.tp_stream.specs.declared.TpStep.{TpStep}
 use Rattle.tp_stream.specs.Stream.{view, stored, blank}
 use Rattle.tp_stream.specs.Promises.{Began, Ran, Took}
 use Rattle.tp_stream.proofs.StreamLaws.{view-stored}
-use Rattle.tp_stream.proofs.TakingLaws.{ready-tells}
 
 pub begins : (limit : ℕ) (r : TpStep) → Began limit r → view (r .stream) ≡ begin limit
 unfolding begin
@@ -43,12 +40,6 @@ runs (next {s} {buf} {seg} ran more) o h =
     let e : step (o .state) seg (o .buffer) ≡ step (view s) seg buf = λ i. step (h .0 i) seg (h .1 i) in
     let q = e ∙ sym (ran .steps) in
     runs more (step (o .state) seg (o .buffer)) (ap (λ (x : Out). x .state) q, ap (λ (x : Out). x .buffer) q)
-
--- the length field leaves the buffer's length
-pub finished-length : (p : State) (buf : List ℕ) (a : Answer ℕ) → a ≡ ready p (length buf) → length (finished a buf) ≡ length buf
-unfolding be32 be16
-finished-length p buf (accepted e) q = pasted-length buf 4 (be32 (e + 8)) (omega (arith, ready-tells p (length buf) e q))
-finished-length p buf (refused r) q = refl
 
 pub reports : (s : TpStream) (buf : List ℕ) (r : Count) (after part : List ℕ) → Took s buf r after
     → part ≡ report (ready (view s) (length after)) after → part ≡ taking (view s) buf .part

@@ -1,16 +1,15 @@
 -- Laws of taking a report. Assumes nothing.
 use Prim.Native.Nat.{ℕ, _+_, _≤_, _<_}
-use mathlib.Core.Path.{_≡_, refl, sym, ap, subst, _∙_}
+use mathlib.Core.Path.{_≡_, refl, sym, ap, _∙_}
 use mathlib.Core.Bool.{true, false, _&&_}
 use mathlib.Core.List.{List, [], _∷_}
 use native.Mathlib.Omega.{arith}
-use borrow.Author.Tests.{lt-ltb, le-ltb, ltb-false}
-use lib.Dec.{ltb, eqb}
+use borrow.Author.Tests.{lt-ltb, le-ltb}
+use lib.Dec.{eqb}
 use lib.ListN.{length, take, getD}
 use Rattle.numbers.specs.Bytes.{be32}
 use Rattle.numbers.specs.Refusals.{buffer-too-short, not-complete, malformed-state}
-use Rattle.numbers.specs.Answers.{Answer, accepted, refused, refuse_when_else_, All}
-use Rattle.numbers.proofs.AnswerLaws.{when-accepted, test-accepted, accepted-inj}
+use Rattle.numbers.specs.Answers.{Answer, accepted, refused, refuse_when_else_}
 use Rattle.refusal.specs.declared.Refusal.{Refusal}
 use Rattle.refusal.specs.declared.answers.Count.{Count}
 use Rattle.refusal.specs.declared.answers.Count.the-variants.{Good, Refused}
@@ -19,11 +18,10 @@ use Rattle.tp_range.specs.Joining.{none}
 use Rattle.tp_machine.specs.declared.TpRange.{TpRange}
 use Rattle.tp_machine.specs.declared.TpEnd.the-variants.{Known}
 use Rattle.tp_machine.specs.Segments.{pasted}
-use Rattle.tp_machine.specs.Machine.{highest, State, bad-state}
+use Rattle.tp_machine.specs.Machine.{State, bad-state}
 use Rattle.tp_machine.specs.Taking.{is-known, whole, complete, end-held, ready, finished, taking}
-use Rattle.tp_machine.specs.Meaning.{range, Fine}
 use Rattle.tp_machine.proofs.Lists.{and-inv}
-use Rattle.tp_machine.proofs.Tests.{whole-means, complete-means}
+use Rattle.tp_machine.proofs.Tests.{whole-means}
 use Rattle.tp_stream.specs.declared.TpStream.{TpStream}
 use Rattle.tp_stream.specs.Stream.{held, view}
 use Rattle.tp_stream.specs.Promises.{Took}
@@ -80,19 +78,6 @@ first-end s l w =
     let one = whole-means (held (s .count) (s .ranges)) (and-inv (is-known (s .end)) _ w .1) in
     let n : s .count ≡ 1 = sym (held-length (s .count) (s .ranges)) ∙ ap length (one .1) in
     rw (n, held-take 1 (s .ranges) l, front (s .ranges) l)
-
--- what an end that is given tells: the report fits the buffer, and is no longer than a limit
-pub ready-tells : (p : State) (room e : ℕ) → accepted e ≡ ready p room → (16 + e ≤ room) × (e ≤ highest)
-unfolding ready
-ready-tells p room e q =
-    let a = when-accepted malformed-state (bad-state p) _ e (sym q) in
-    let b = test-accepted not-complete (complete p) _ e .0 (a .1) in
-    let c = when-accepted (buffer-too-short (16 + end-held (p .ranges))) (ltb room (16 + end-held (p .ranges))) _ e (b .1) in
-    let i : end-held (p .ranges) ≡ e = accepted-inj (end-held (p .ranges)) e (c .1) in
-    let whole = complete-means p .0 (b .0) in
-    let n : end-held (p .ranges) ≡ whole .held = ap end-held (whole .one-range) in
-    let fine : All (Fine p) (range 0 (whole .held) ∷ []) = subst (All (Fine p)) (whole .one-range) (whole .good .each) in
-    (omega (arith, ltb-false room (16 + end-held (p .ranges)) (c .0)), omega (arith, fine .0 .within, whole .good .low))
 
 -- ---- what taking leaves
 module _ (s : TpStream) (buf : List ℕ) where

@@ -8,7 +8,7 @@ use Rattle.numbers.specs.Answers.{Answer, accepted, given}
 use Rattle.tp_machine.specs.Taking.{ready, report}
 use Rattle.refusal.specs.Said.{count-said}
 use Rattle.tp_stream.specs.Stream.{view}
-use Rattle.tp_stream.proofs.TakingLaws.{ready-tells}
+use Rattle.tp_machine.proofs.Steps.{ready-tells}
 use borrow.Author.Needs.{needs}
 use Rattle.tp_stream.proofs.report.Statement.{statement}
 use Rattle.tp_stream.proofs.report.Tie as tie

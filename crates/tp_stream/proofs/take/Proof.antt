@@ -6,7 +6,8 @@ use Rattle.numbers.specs.Answers.{accepted}
 use Rattle.tp_machine.specs.Taking.{ready}
 use Rattle.refusal.specs.Said.{count-said}
 use Rattle.tp_stream.specs.Stream.{view}
-use Rattle.tp_stream.proofs.TakingLaws.{ready-tells, took-end, took-nothing}
+use Rattle.tp_machine.proofs.Steps.{ready-tells}
+use Rattle.tp_stream.proofs.TakingLaws.{took-end, took-nothing}
 use borrow.Author.Needs.{needs}
 use Rattle.tp_stream.proofs.take.Statement.{statement}
 use Rattle.tp_stream.proofs.take.Tie as tie
