@@ -28,7 +28,7 @@ pub record Begins (ws : List ℕ) (limit : ℕ) (r : Answer) (ws′ : List ℕ) 
   pub words : ws′ ≡ put ws (stored blank (begin limit))
   pub state : size ≤ length ws → state-of ws′ ≡ begin limit
 
--- an accepted segment's state is put into the words, where the pairs that hold no range are as they were; a refusal leaves them alone
+-- an accepted segment's state is put into the words, where the places that hold no range are as they were; a refusal leaves them alone
 abbrev pub kept : List ℕ → Verdict → State → List ℕ
 kept ws (accepted u) p = put ws (stored (stream-of ws) p)
 kept ws (refused r) p = ws
@@ -56,7 +56,7 @@ pub record Takes (ws buf : List ℕ) (r : Answer) (buf′ : List ℕ) : Type 0 w
   pub buffer : buf′ ≡ taking (state-of ws) buf .buffer
   pub report : (end : ℕ) → taking (state-of ws) buf .answer ≡ accepted end → InFront (state-of ws) buf end buf′
 
--- clearing: the limit is kept, ranges and end are forgotten, and the pairs are as they were; 38 where the words are unfit
+-- clearing: the limit is kept, ranges, end and count are forgotten, and the places of ranges are as they were; 38 where the words are unfit
 pub record Clears (ws : List ℕ) (r : Answer) (ws′ : List ℕ) : Type 0 where
   pub answers : r ≡ told no-values (refuse malformed-state when unfit ws else pass)
   pub words : ws′ ≡ cond (unfit ws) ws (put ws (stored (stream-of ws) (clear (state-of ws))))

@@ -69,7 +69,7 @@ pub extern "C" fn viaductle_take(words: &[u32], buffer: &mut [u8]) -> Answer
     count_answer(Count::Good(length))
 }
 
-// The limit is kept, ranges and end are forgotten: 38 where the words are unfit, and they are left alone.
+// The limit is kept, ranges, end and count are forgotten: 38 where the words are unfit, and they are left alone.
 #[no_mangle]
 pub extern "C" fn viaductle_clear(words: &mut [u32]) -> Answer
     ensures { λ r. ⌜ Clears (now (words .entry)) r (now (words .exit)) ⌝ }

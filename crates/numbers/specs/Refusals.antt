@@ -163,3 +163,6 @@ not-complete = refusal 37 []
 
 abbrev pub malformed-state : Refusal
 malformed-state = refusal 38 []
+
+abbrev pub count-full : Refusal
+count-full = refusal 39 []

@@ -61,7 +61,7 @@ protocol-arm by {protocol} made same = ap (λ (p : ℕ). said (code.WrongProtoco
 
 -- which variants they are: all but 6 to 9 and 22, counted from 0
 abbrev others : List ℕ
-others = 0 ∷ 1 ∷ 2 ∷ 3 ∷ 4 ∷ 5 ∷ 10 ∷ 11 ∷ 12 ∷ 13 ∷ 14 ∷ 15 ∷ 16 ∷ 17 ∷ 18 ∷ 19 ∷ 20 ∷ 21 ∷ 23 ∷ 24 ∷ 25 ∷ 26 ∷ 27 ∷ 28 ∷ 29 ∷ 30 ∷ 31 ∷ []
+others = 0 ∷ 1 ∷ 2 ∷ 3 ∷ 4 ∷ 5 ∷ 10 ∷ 11 ∷ 12 ∷ 13 ∷ 14 ∷ 15 ∷ 16 ∷ 17 ∷ 18 ∷ 19 ∷ 20 ∷ 21 ∷ 23 ∷ 24 ∷ 25 ∷ 26 ∷ 27 ∷ 28 ∷ 29 ∷ 30 ∷ 31 ∷ 32 ∷ []
 
 pub other-arm : (by : ℕ) (r : Refusal) → OneOf others (Declared.tagOf the-type r) → said r ≡ moved-capped by (said r)
 other-arm by (code.UnexpectedEndOfSlice a) o = refl
@@ -96,3 +96,4 @@ other-arm by code.RangesFull o = refl
 other-arm by (code.LimitTooLarge a) o = refl
 other-arm by code.NotComplete o = refl
 other-arm by code.MalformedState o = refl
+other-arm by code.CountFull o = refl

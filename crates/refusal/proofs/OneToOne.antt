@@ -68,7 +68,8 @@ refusal-of n v p =
     (cond (eqb n 35) code.RangesFull
     (cond (eqb n 36) (code.LimitTooLarge (v 0))
     (cond (eqb n 37) code.NotComplete
-    code.MalformedState))))))))))))))))))))))))))))))
+    (cond (eqb n 38) code.MalformedState
+    code.CountFull)))))))))))))))))))))))))))))))
 
 value : paper.Refusal → ℕ → ℕ
 value r i = getD (r .values) i 0
@@ -119,6 +120,7 @@ back code.RangesFull = refl
 back (code.LimitTooLarge a) = refl
 back code.NotComplete = refl
 back code.MalformedState = refl
+back code.CountFull = refl
 
 pub one-to-one : (x y : Refusal) → said x ≡ said y → x ≡ y
 one-to-one x y same = sym (back x) ∙ ap (λ (r : paper.Refusal). refusal-of (r .number) (value r) (byte-of (r .place))) same ∙ back y

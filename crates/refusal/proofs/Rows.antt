@@ -110,6 +110,7 @@ case code.RangesFull = record { says = refl; not-zero = omega arith; few = omega
 case (code.LimitTooLarge limit) = record { says = refl; not-zero = omega arith; few = omega arith }
 case code.NotComplete = record { says = refl; not-zero = omega arith; few = omega arith }
 case code.MalformedState = record { says = refl; not-zero = omega arith; few = omega arith }
+case code.CountFull = record { says = refl; not-zero = omega arith; few = omega arith }
 
 pub rows : Rows
 rows =

@@ -56,6 +56,7 @@ row code.RangesFull = refusal 35 []
 row (code.LimitTooLarge limit) = refusal 36 (limit ∷ [])
 row code.NotComplete = refusal 37 []
 row code.MalformedState = refusal 38 []
+row code.CountFull = refusal 39 []
 
 -- the numbers as data: the number, how many values, and the values in front, with nothing but zeros behind them
 pub record Data (r : paper.Refusal) (n : Numbers) : Type 0 where

@@ -67,6 +67,7 @@ said code.RangesFull = paper.ranges-full
 said (code.LimitTooLarge limit) = paper.limit-too-large limit
 said code.NotComplete = paper.not-complete
 said code.MalformedState = paper.malformed-state
+said code.CountFull = paper.count-full
 
 -- ---- the answers that all layers share
 

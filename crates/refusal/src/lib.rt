@@ -117,4 +117,5 @@ pub enum Refusal {
     LimitTooLarge(u32),
     NotComplete,
     MalformedState,
+    CountFull,
 }

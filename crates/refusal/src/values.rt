@@ -215,5 +215,6 @@ pub fn numbers_of(refusal: Refusal) -> Numbers
         Refusal::LimitTooLarge(limit) => one(36, limit as u64),
         Refusal::NotComplete => none(37),
         Refusal::MalformedState => none(38),
+        Refusal::CountFull => none(39),
     }
 }

@@ -52,8 +52,26 @@ bounds = record {
     range-backwards = refl;
     ranges-apart = refl;
     ranges-touch = refl;
+    number-zero = refl;
+    number-one = refl;
+    number-of-count = refl;
+    number-past-count = refl;
   };
   overrun-refused = record { comes = refl; incomplete = refl; taken = refl; cleared = refl };
+  arrivals = record {
+    of-two = refl;
+    of-three = refl;
+    of-others = refl;
+    again = refl;
+    empty = refl;
+    refused-between = refl;
+    refused-and-on = refl;
+    cleared = refl;
+    last-given = refl;
+    counted-out = refl;
+    cleared-at-last = refl;
+    taken-at-last = refl;
+  };
   highest = (refl, refl);
   too-high = (refl, refl);
   room = refl;

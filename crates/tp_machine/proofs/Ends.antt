@@ -1,6 +1,6 @@
 -- The end of a stream: where it is known it is the greatest end held, and a complete stream's report ends there. Assumes nothing.
 use Prim.Native.Nat.{ℕ, _+_, _≤_, max}
-use mathlib.Core.Path.{_≡_, refl, sym, ap, subst, _∙_}
+use mathlib.Core.Path.{_≡_, refl, sym, ap, ap₂, subst, _∙_}
 use mathlib.Core.Bool.{Bool, true, false, cond, or-false, false≢true}
 use mathlib.Core.List.{List, [], _∷_}
 use native.Mathlib.Omega.{arith}
@@ -13,16 +13,17 @@ use Rattle.tp_machine.specs.declared.TpEnd.the-variants.{Known}
 use Rattle.tp_machine.specs.Lists.{OneOf}
 use Rattle.tp_machine.specs.Segments.{more, end-of}
 use Rattle.tp_machine.specs.Ranges.{any, greatest-end}
-use Rattle.tp_machine.specs.Machine.{State, taken, judged, Out, after, step, begin, opened, fed, clear, previous}
+use Rattle.tp_machine.specs.Machine.{State, taken, judged, after, step, begin, opened, fed, clear, previous}
 use Rattle.tp_machine.specs.Taking.{is-known, end-held}
 use Rattle.tp_machine.specs.Meaning.{range, range-of, Agrees, Greatest, Accepted}
-use Rattle.tp_machine.specs.Runs.{Reached, begins, comes, clears, admitted, final, around, Lies, Ended}
+use Rattle.tp_machine.specs.Runs.{begins, comes, clears, admitted, final, around, Lies, Ended}
 use Rattle.tp_machine.specs.Theorems.{EndIsGreatest, CompleteEnds, EveryEnd}
 use Rattle.tp_machine.proofs.Lists.{each-one, latest-of, all-latest}
 use Rattle.tp_machine.proofs.Joining.{lies-around}
 use Rattle.tp_machine.proofs.Greatest.{none-past-means, greatest-told, joining-reaches, joined-greatest}
 use Rattle.tp_machine.proofs.Tests.{accepted-means, complete-means}
-use Rattle.tp_machine.proofs.Steps.{part-length}
+use Rattle.tp_machine.proofs.Steps.{part-length, fed-reached}
+use Rattle.tp_machine.proofs.Numbers.{every-number, one-number}
 use Rattle.tp_machine.proofs.Runs.{every-run}
 use Rattle.tp_machine.proofs.Report.{every-report}
 
@@ -39,8 +40,8 @@ Kept p = (e : ℕ) → p .end ≡ Known e → Greatest (p .ranges) e
 
 taken-kept : (p : State) (seg : List ℕ) (room : ℕ) → Accepted p seg room → Kept p → Kept (taken p seg)
 taken-kept p seg room t before e q =
-    joined-greatest (range-of seg) (p .ranges) e
-    (joining-reaches (range-of seg) (p .ranges)
+    joined-greatest (range-of (p .count + 1) seg) (p .ranges) e
+    (joining-reaches (range-of (p .count + 1) seg) (p .ranges)
     ∙ reaches-end (more seg) (p .end) (end-of seg) (greatest-end (p .ranges)) e (t .agrees) (λ h. none-past-means (p .ranges) (end-of seg) .1 (t .closes h)) (λ f d. greatest-told (p .ranges) f (before f d)) q)
 
 step-kept : (p : State) (seg buf : List ℕ) → Kept p → Kept (step p seg buf .state)
@@ -63,12 +64,8 @@ complete-ends p r c =
     let w = complete-means p .0 c in
     let reach : greatest-end (p .ranges) ≡ w .end = greatest-told (p .ranges) (w .end) (end-is-greatest p r (w .end) (w .known)) in
     let held : greatest-end (p .ranges) ≡ w .held = ap greatest-end (w .one-range) ∙ omega arith in
-    (w .end, w .known, w .one-range ∙ ap (λ (x : ℕ). range 0 x ∷ []) (sym held ∙ reach))
-
-fed-reached : (o : Out) (ss : List (List ℕ)) → Reached (o .state) → Reached (fed o ss .state)
-unfolding fed
-fed-reached o [] r = r
-fed-reached o (s ∷ ss) r = fed-reached (step (o .state) s (o .buffer)) ss (comes r s (o .buffer))
+    let number : w .number ≡ p .count = one-number p (w .good) (every-number p r) 0 (w .held) (w .number) (w .one-range) in
+    (w .end, w .known, w .one-range ∙ ap₂ (λ (x y : ℕ). range 0 x y ∷ []) (sym held ∙ reach) number)
 
 -- ---- a complete stream
 
@@ -83,9 +80,9 @@ told-by segs d e ended k = go (any final segs) refl
     go false h = absurd (false≢true (ap is-known (sym (ended .by-none h) ∙ k)))
 
 -- a segment that lies in the one range does not end past it
-lies-within : (e : ℕ) (s : List ℕ) → Lies (range 0 e ∷ []) s → end-of s ≤ e
+lies-within : (e number : ℕ) (s : List ℕ) → Lies (range 0 e number ∷ []) s → end-of s ≤ e
 unfolding any
-lies-within e s h = lies-around s (range 0 e) (sym (or-false (around s (range 0 e))) ∙ h) .1
+lies-within e number s h = lies-around s (range 0 e number) (sym (or-false (around s (range 0 e number))) ∙ h) .1
 
 pub every-end : EveryEnd
 every-end limit buf ss c =
@@ -105,7 +102,7 @@ every-end limit buf ss c =
         among = last .1;
         is-final = last .2;
         there = last .3;
-        none-past = all-map (Lies (range 0 e ∷ [])) (λ s. end-of s ≤ e) (lies-within e) segs (subst (λ (rs : List TpRange). All (Lies rs) segs) one (run .lie));
+        none-past = all-map (Lies (range 0 e (p .count) ∷ [])) (λ s. end-of s ≤ e) (lies-within e (p .count)) segs (subst (λ (rs : List TpRange). All (Lies rs) segs) one (run .lie));
       };
       report-length = part-length p (fed (opened limit buf) ss .buffer) (given .size) (given .answer) ∙ ap (λ (x : ℕ). 16 + x) same;
     }

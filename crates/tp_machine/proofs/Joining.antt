@@ -1,25 +1,26 @@
--- What joining keeps: a property of each range, that none touch, which places are covered, and that the order of the ranges is not seen.
--- Assumes nothing.
+-- What joining keeps: a property of each range, that none touch, which places are covered, and that neither the order of the ranges nor their
+-- numbers are seen. Assumes nothing.
 use Prim.Native.Nat.{ℕ, _≤_, _<_}
 use mathlib.Core.Path.{_≡_, refl, sym, ap, ap₂, _∙_}
 use mathlib.Core.Bool.{Bool, true, false, _&&_, _||_, and-comm, or-assoc, or-true, true≢false, false≢true}
-use mathlib.Core.List.{List, [], _∷_, _++_}
+use mathlib.Core.List.{List, [], _∷_, _++_, map}
 use mathlib.Core.Logic.{_⊎_, inl, inr, ⊎-elim, _↔_}
 use native.Mathlib.Nat.{le-refl}
 use native.Mathlib.Omega.{arith}
 use borrow.Author.Tests.{leb-true, leb-false, le-leb, lt-leb, ltb-true, ltb-false, lt-ltb, eqb-true, eq-eqb}
 use lib.Dec.{leb, ltb, eqb}
+use lib.ListN.{length, length-map}
 use Rattle.numbers.specs.Answers.{All}
 use Rattle.numbers.proofs.AnswerLaws.{all-map, all-both}
 use Rattle.tp_machine.specs.declared.TpRange.{TpRange}
-use Rattle.tp_machine.specs.Lists.{Pairwise, Rearranged, nothing, first, swap, next}
+use Rattle.tp_machine.specs.Lists.{OneOf, Pairwise, Rearranged, nothing, first, swap, next}
 use Rattle.tp_machine.specs.Segments.{offset, end-of}
 use Rattle.tp_machine.specs.Ranges.{any, touch, hull-of, unless, keep, grow-if, grow, joined, some-touch}
 use Rattle.tp_machine.specs.Meaning.{range, range-of, Apart}
-use Rattle.tp_machine.specs.Runs.{around, Lies, holds}
+use Rattle.tp_machine.specs.Runs.{around, Lies, holds, unnumbered}
 use Rattle.tp_machine.specs.Theorems.{JoiningCovers, JoiningOrderUnseen}
 use Rattle.numbers.proofs.TestLaws.{or-inv, or-cases, neither, or-swap, and-inv, same-test}
-use Rattle.tp_machine.proofs.Lists.{all-append, any-all, all-any, any-append, any-moved, unmoved, append-moved}
+use Rattle.tp_machine.proofs.Lists.{all-append, pairwise-append, one-behind, any-all, all-any, any-append, any-moved, unmoved, append-moved}
 
 -- ---- a property of each range
 module _ (P : TpRange → Type 0) where
@@ -27,13 +28,17 @@ module _ (P : TpRange → Type 0) where
   all-unless true x xs p e = e
   all-unless false x xs p e = (p refl, e)
 
-  all-keep : (n : TpRange) (xs : List TpRange) → All P xs → All P (keep n xs)
+  -- what each that is not touched has
+  all-kept : (Q : TpRange → Type 0) (n : TpRange) → ((x : TpRange) → touch n x ≡ false → Q x → P x) → (xs : List TpRange) → All Q xs → All P (keep n xs)
   unfolding keep
-  all-keep n [] e = tt
-  all-keep n (x ∷ xs) e = all-unless (touch n x) x (keep n xs) (λ _. e .0) (all-keep n xs (e .1))
+  all-kept Q n f [] e = tt
+  all-kept Q n f (x ∷ xs) e = all-unless (touch n x) x (keep n xs) (λ m. f x m (e .0)) (all-kept Q n f xs (e .1))
+
+  all-keep : (n : TpRange) (xs : List TpRange) → All P xs → All P (keep n xs)
+  all-keep n xs e = all-kept P n (λ x _ p. p) xs e
 
   -- what the hull with a touched range keeps, growing keeps
-  all-grow : (Q : TpRange → Type 0) (n : TpRange) → ((g r : TpRange) → touch n r ≡ true → P g → Q r → P (hull-of g r)) → (g : TpRange) (rs : List TpRange) → P g → All Q rs → P (grow n g rs)
+  pub all-grow : (Q : TpRange → Type 0) (n : TpRange) → ((g r : TpRange) → touch n r ≡ true → P g → Q r → P (hull-of g r)) → (g : TpRange) (rs : List TpRange) → P g → All Q rs → P (grow n g rs)
   unfolding grow
   all-grow Q n f g [] p e = p
   all-grow Q n f g (r ∷ rs) p e = all-grow Q n f (grow-if (touch n r) g r) rs (one (touch n r) refl) (e .1)
@@ -42,9 +47,33 @@ module _ (P : TpRange → Type 0) where
       one true m = f g r m p (e .0)
       one false m = p
 
-  pub all-joined : (n : TpRange) → ((g r : TpRange) → P g → P r → P (hull-of g r)) → (rs : List TpRange) → P n → All P rs → All P (joined n rs)
+  -- what those that are not touched have, and the grown one
+  pub each-joined : (Q : TpRange → Type 0) (n : TpRange) → ((x : TpRange) → touch n x ≡ false → Q x → P x) → (rs : List TpRange) → All Q rs → P (grow n n rs) → All P (joined n rs)
   unfolding joined
-  all-joined n f rs p e = all-append P (keep n rs) (grow n n rs) (all-keep n rs e) (all-grow P n (λ g r _. f g r) n rs p e)
+  each-joined Q n f rs e p = all-append P (keep n rs) (grow n n rs) (all-kept Q n f rs e) p
+
+  pub all-joined : (n : TpRange) → ((g r : TpRange) → P g → P r → P (hull-of g r)) → (rs : List TpRange) → P n → All P rs → All P (joined n rs)
+  all-joined n f rs p e = each-joined P n (λ x _ q. q) rs e (all-grow P n (λ g r _. f g r) n rs p e)
+
+-- ---- a relation of each two that are not touched, and of each of them to the grown one
+module _ (R : TpRange → TpRange → Type 0) (n : TpRange) where
+  pairwise-keep : (rs : List TpRange) → Pairwise R rs → Pairwise R (keep n rs)
+  unfolding keep
+  pairwise-keep [] p = tt
+  pairwise-keep (r ∷ rs) p = go (touch n r) (pairwise-keep rs (p .1))
+    where
+      go : (t : Bool) → Pairwise R (keep n rs) → Pairwise R (unless t r (keep n rs))
+      go true later = later
+      go false later = (all-keep (R r) n rs (p .0), later)
+
+  pub pairwise-joined : (rs : List TpRange) → Pairwise R rs → All (λ x. R x (grow n n rs)) rs → Pairwise R (joined n rs)
+  unfolding joined
+  pairwise-joined rs p a = pairwise-append R (keep n rs) (grow n n rs) (pairwise-keep rs p) (all-keep (λ x. R x (grow n n rs)) n rs a)
+
+-- the grown one is one of the joined
+pub grown-joined : (n : TpRange) (rs : List TpRange) → OneOf (grow n n rs) (joined n rs)
+unfolding joined
+grown-joined n rs = one-behind (keep n rs) (grow n n rs)
 
 -- ---- touching
 pub apart : (a b : TpRange) → touch a b ≡ false → Apart a b
@@ -88,6 +117,14 @@ Around n g = (g .start ≤ n .start) × (n .end ≤ g .end)
 around-hull : (n g r : TpRange) → Around n g → Around n (hull-of g r)
 unfolding hull-of
 around-hull n g r a = (omega arith, omega arith)
+
+-- so does the range that n has grown to
+pub grow-around : (n : TpRange) (rs : List TpRange) → Around n (grow n n rs)
+grow-around n rs = all-grow (Around n) (λ r. Unit {0}) n (λ g r _ a _. around-hull n g r a) n rs (le-refl (n .start), le-refl (n .end)) (every rs)
+  where
+    every : (xs : List TpRange) → All (λ r. Unit {0}) xs
+    every [] = tt
+    every (x ∷ xs) = (tt, every xs)
 
 -- a range that is apart from two that meet is apart from their hull
 hull-apart : (x g r n : TpRange) → x .start ≤ x .end → Around n g → touch n r ≡ true → touch x g ≡ false → touch x r ≡ false → touch x (hull-of g r) ≡ false
@@ -182,11 +219,11 @@ module _ (f : TpRange → Bool) (n : TpRange) (hull : (g r : TpRange) → (f g �
   unfolding joined
   joined-some rs o = any-append f (keep n rs) (grow n n rs) ∙ grow-some n rs o
 
-pub lies-around : (s : List ℕ) (r : TpRange) → around s r ≡ true → Around (range-of s) r
+pub lies-around : (s : List ℕ) (r : TpRange) → around s r ≡ true → (r .start ≤ offset s) × (end-of s ≤ r .end)
 unfolding around
 lies-around s r e = let o = and-inv (leb (r .start) (offset s)) (leb (end-of s) (r .end)) e in (leb-true (r .start) (offset s) (o .0), leb-true (end-of s) (r .end) (o .1))
 
-is-around : (s : List ℕ) (r : TpRange) → Around (range-of s) r → around s r ≡ true
+pub is-around : (s : List ℕ) (r : TpRange) → (r .start ≤ offset s) × (end-of s ≤ r .end) → around s r ≡ true
 unfolding around
 is-around s r a = rw (le-leb (r .start) (offset s) (a .0), le-leb (end-of s) (r .end) (a .1))
 
@@ -196,8 +233,8 @@ hull-lies s g r (inl e) = let a = lies-around s g e in is-around s (hull-of g r)
 hull-lies s g r (inr e) = let a = lies-around s r e in is-around s (hull-of g r) (omega arith, omega arith)
 
 -- a segment lies in one of the joined ranges if its range has come, or if it lay in one before
-pub new-lies : (s : List ℕ) (rs : List TpRange) → Lies (joined (range-of s) rs) s
-new-lies s rs = joined-some (around s) (range-of s) (hull-lies s) rs (inl (is-around s (range-of s) (le-refl (offset s), le-refl (end-of s))))
+pub new-lies : (number : ℕ) (s : List ℕ) (rs : List TpRange) → Lies (joined (range-of number s) rs) s
+new-lies number s rs = joined-some (around s) (range-of number s) (hull-lies s) rs (inl (is-around s (range-of number s) (le-refl (offset s), le-refl (end-of s))))
 
 pub still-lies : (s : List ℕ) (n : TpRange) (rs : List TpRange) → Lies rs s → Lies (joined n rs) s
 still-lies s n rs h = joined-some (around s) n (hull-lies s) rs (inr h)
@@ -251,12 +288,12 @@ pub joined-at-zero : (n : TpRange) (rs : List TpRange) → any at-zero (joined n
 joined-at-zero n rs = joined-any at-zero n (λ g r _ _. hull-at-zero g r) rs
 
 -- ---- the order of the ranges
-same-range : (a b : TpRange) → a .start ≡ b .start → a .end ≡ b .end → a ≡ b
-same-range a b p q = ap₂ (λ (s e : ℕ). range s e) p q
+same-range : (a b : TpRange) → a .start ≡ b .start → a .end ≡ b .end → a .number ≡ b .number → a ≡ b
+same-range a b p q r = ap₂ (λ (s e : ℕ). range s e (a .number)) p q ∙ ap (range (b .start) (b .end)) r
 
 hull-swap : (g a b : TpRange) → hull-of (hull-of g a) b ≡ hull-of (hull-of g b) a
 unfolding hull-of
-hull-swap g a b = same-range (hull-of (hull-of g a) b) (hull-of (hull-of g b) a) (omega arith) (omega arith)
+hull-swap g a b = same-range (hull-of (hull-of g a) b) (hull-of (hull-of g b) a) (omega arith) (omega arith) (omega arith)
 
 grow-swap : (g a b : TpRange) (s t : Bool) → grow-if t (grow-if s g a) b ≡ grow-if s (grow-if t g b) a
 grow-swap g a b true true = hull-swap g a b
@@ -301,3 +338,37 @@ touch-moved (swap {a} {b} {l}) = rw (touch-sym a b) (turn (touch b a) (any (touc
     turn true x y z = refl
     turn false x y z = or-swap x y z
 touch-moved (next r s) = touch-moved r ∙ touch-moved s
+
+-- ---- numbers: the hull of two has the hull of what they span, and so on
+unless-unnumbered : (t : Bool) (r : TpRange) (rs : List TpRange) → map unnumbered (unless t r rs) ≡ unless t (unnumbered r) (map unnumbered rs)
+unless-unnumbered true r rs = refl
+unless-unnumbered false r rs = refl
+
+keep-unnumbered : (n : TpRange) (rs : List TpRange) → map unnumbered (keep n rs) ≡ keep (unnumbered n) (map unnumbered rs)
+unfolding keep touch
+keep-unnumbered n [] = refl
+keep-unnumbered n (r ∷ rs) = unless-unnumbered (touch n r) r (keep n rs) ∙ ap (unless (touch n r) (unnumbered r)) (keep-unnumbered n rs)
+
+grow-if-unnumbered : (t : Bool) (g r : TpRange) → unnumbered (grow-if t g r) ≡ grow-if t (unnumbered g) (unnumbered r)
+unfolding hull-of
+grow-if-unnumbered true g r = refl
+grow-if-unnumbered false g r = refl
+
+grow-unnumbered : (n g : TpRange) (rs : List TpRange) → unnumbered (grow n g rs) ≡ grow (unnumbered n) (unnumbered g) (map unnumbered rs)
+unfolding grow touch
+grow-unnumbered n g [] = refl
+grow-unnumbered n g (r ∷ rs) = grow-unnumbered n (grow-if (touch n r) g r) rs ∙ ap (λ (h : TpRange). grow (unnumbered n) h (map unnumbered rs)) (grow-if-unnumbered (touch n r) g r)
+
+behind-unnumbered : (xs : List TpRange) (g : TpRange) → map unnumbered (xs ++ (g ∷ [])) ≡ map unnumbered xs ++ (unnumbered g ∷ [])
+behind-unnumbered [] g = refl
+behind-unnumbered (x ∷ xs) g = ap (λ (l : List TpRange). unnumbered x ∷ l) (behind-unnumbered xs g)
+
+pub joined-unnumbered : (n : TpRange) (rs : List TpRange) → map unnumbered (joined n rs) ≡ joined (unnumbered n) (map unnumbered rs)
+unfolding joined
+joined-unnumbered n rs = behind-unnumbered (keep n rs) (grow n n rs) ∙ rw (keep-unnumbered n rs, grow-unnumbered n n rs)
+
+-- how many there are then does not depend on the new one's number
+pub joined-many : (a b : TpRange) (rs : List TpRange) → unnumbered a ≡ unnumbered b → length (joined a rs) ≡ length (joined b rs)
+joined-many a b rs e =
+    sym (length-map (joined a rs) unnumbered) ∙ ap length (joined-unnumbered a rs ∙ ap (λ (n : TpRange). joined n (map unnumbered rs)) e ∙ sym (joined-unnumbered b rs))
+    ∙ length-map (joined b rs) unnumbered

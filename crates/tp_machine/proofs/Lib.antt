@@ -7,9 +7,11 @@ pub mod Tests
 pub mod RuleLaws
 pub mod Writing
 pub mod Steps
+pub mod Numbers
 pub mod Runs
 pub mod Report
 pub mod Ends
 pub mod Unseen
+pub mod Unnumbered
 pub mod Order
 pub mod Theorems

@@ -1,8 +1,8 @@
 -- Laws of what is said of a list's elements, and of lists in another order. Assumes nothing.
 use Prim.Native.Nat.{ℕ, suc}
 use mathlib.Core.Path.{_≡_, refl, sym, ap, subst, _∙_}
-use mathlib.Core.Bool.{Bool, true, false, _||_, cond, false≢true}
-use mathlib.Core.List.{List, [], _∷_, _++_}
+use mathlib.Core.Bool.{Bool, true, false, _||_, cond, or-true, false≢true}
+use mathlib.Core.List.{List, [], _∷_, _++_, append-assoc}
 use mathlib.Core.Logic.{inl, inr, ⊎-elim, _≢_}
 use native.Mathlib.Omega.{arith}
 use lib.ListN.{length}
@@ -24,6 +24,11 @@ module _ {A : Type 0} (P : A → Type 0) where
   all-moved (first r) e = (e .0, all-moved r (e .1))
   all-moved swap e = (e .1 .0, (e .0, e .1 .1))
   all-moved (next r s) e = all-moved s (all-moved r e)
+
+-- each two, and one more behind them
+pub pairwise-append : {A : Type 0} (R : A → A → Type 0) (xs : List A) (g : A) → Pairwise R xs → All (λ x. R x g) xs → Pairwise R (xs ++ (g ∷ []))
+pairwise-append R [] g p a = (tt, tt)
+pairwise-append R (x ∷ xs) g p a = (all-append (R x) xs g (p .0) (a .0), pairwise-append R xs g (p .1) (a .1))
 
 -- ---- one element
 module _ {A : Type 0} (f : A → Bool) where
@@ -108,6 +113,10 @@ module _ {A : Type 0} where
   each-one [] = tt
   each-one (x ∷ xs) = (inl refl, all-map (λ y. OneOf y xs) (λ y. OneOf y (x ∷ xs)) (λ y o. inr o) xs (each-one xs))
 
+  pub one-behind : (xs : List A) (g : A) → OneOf g (xs ++ (g ∷ []))
+  one-behind [] g = inl refl
+  one-behind (x ∷ xs) g = inr (one-behind xs g)
+
   -- it can be brought to the front
   to-front : (x : A) (ys : List A) → OneOf x ys → (zs : List A) × Rearranged ys (x ∷ zs)
   to-front x [] o = absurd o
@@ -157,6 +166,41 @@ module _ {A : Type 0} (f : A → Bool) where
 
   pub all-latest : (P : A → Type 0) (xs : List A) (x : A) → Latest f xs x → All P xs → P x
   all-latest P xs x l a = all-split P (l .before) x (l .behind) (subst (All P) (l .among) a)
+
+-- another comes behind: the latest stays so where that one does not pass, else that one is the latest
+module _ {A : Type 0} (f : A → Bool) (xs : List A) (y : A) where
+  unfoldable pub latest-still : (x : A) → Latest f xs x → f y ≡ false → Latest f (xs ++ (y ∷ [])) x
+  latest-still x l n = record {
+    before = l .before;
+    behind = l .behind ++ (y ∷ []);
+    among = ap (λ (t : List A). t ++ (y ∷ [])) (l .among) ∙ append-assoc (l .before) (x ∷ l .behind) (y ∷ []);
+    passes = l .passes;
+    none = any-append f (l .behind) y ∙ neither (f y) (any f (l .behind)) n (l .none);
+  }
+
+  unfoldable pub latest-new : f y ≡ true → Latest f (xs ++ (y ∷ [])) y
+  unfolding any
+  latest-new p = record { before = xs; behind = []; among = refl; passes = p; none = refl }
+
+-- there is one latest, at one place
+module _ {A : Type 0} (f : A → Bool) where
+  passed-among : (before : List A) (x : A) (behind : List A) → f x ≡ true → any f (before ++ (x ∷ behind)) ≡ true
+  unfolding any
+  passed-among [] x behind p = rw p
+  passed-among (y ∷ before) x behind p = rw (passed-among before x behind p) (or-true (f y))
+
+  one-split : (b c : List A) (x y : A) (d e : List A) → b ++ (x ∷ d) ≡ c ++ (y ∷ e) → f x ≡ true → f y ≡ true → any f d ≡ false → any f e ≡ false → (b ≡ c) × (x ≡ y) × (d ≡ e)
+  one-split [] [] x y d e same p q m n = let a : x ≡ y = cc in let t : d ≡ e = cc in (refl, a, t)
+  one-split [] (c ∷ cs) x y d e same p q m n = let t : d ≡ cs ++ (y ∷ e) = cc in absurd (false≢true (sym m ∙ ap (any f) t ∙ passed-among cs y e q))
+  one-split (b ∷ bs) [] x y d e same p q m n = let t : bs ++ (x ∷ d) ≡ e = cc in absurd (false≢true (sym n ∙ ap (any f) (sym t) ∙ passed-among bs x d p))
+  one-split (b ∷ bs) (c ∷ cs) x y d e same p q m n =
+      let heads : b ≡ c = cc in
+      let tails : bs ++ (x ∷ d) ≡ cs ++ (y ∷ e) = cc in
+      let later = one-split bs cs x y d e tails p q m n in
+      (rw (heads, later .0), later .1, later .2)
+
+  pub latest-one : (xs : List A) (x y : A) (l : Latest f xs x) (m : Latest f xs y) → (l .before ≡ m .before) × (x ≡ y) × (l .behind ≡ m .behind)
+  latest-one xs x y l m = one-split (l .before) (m .before) x y (l .behind) (m .behind) (sym (l .among) ∙ m .among) (l .passes) (m .passes) (l .none) (m .none)
 
 -- what the latest element that passes gives, else v
 unfoldable pub newest : {A B : Type 0} → (A → Bool) → (A → B) → B → List A → B

@@ -20,7 +20,8 @@ order = record {
     33-before-33 = refl;
     33-of-data-before-34 = refl;
     34-before-35 = refl;
-    35-last = refl;
+    35-before-39 = refl;
+    39-last = refl;
   };
   taken = record { 38-before-37 = refl; 37-before-34 = refl; 34-last = refl };
   begins = refl;

@@ -19,12 +19,14 @@ use Rattle.tp_machine.specs.Ranges.{any, hull-of}
 use Rattle.tp_machine.specs.Machine.{State, bad-state, Out, begin, opened, fed}
 use Rattle.tp_machine.specs.Taking.{complete, end-held, ready, finished, report, taking}
 use Rattle.tp_machine.specs.Meaning.{range, Complete}
-use Rattle.tp_machine.specs.Runs.{admitted, covered, spans, heads, Filled, Reported}
+use Rattle.tp_machine.specs.Runs.{begins, admitted, covered, spans, heads, Filled, Reported}
 use Rattle.tp_machine.specs.Theorems.{Given, EveryReport}
 use Rattle.tp_machine.proofs.Lists.{latest-of, all-latest}
 use Rattle.tp_machine.proofs.Joining.{at-zero, is-held}
 use Rattle.tp_machine.proofs.Tests.{good-means, complete-means}
 use Rattle.tp_machine.proofs.Writing.{take-more-pasted, header-length}
+use Rattle.tp_machine.proofs.Steps.{fed-reached}
+use Rattle.tp_machine.proofs.Numbers.{every-number, one-number}
 use Rattle.tp_machine.proofs.Runs.{ran, all-heads, all-each, Fits, chain-fits, every-run}
 
 -- ---- taking from a complete state, with room
@@ -85,31 +87,32 @@ module _ (limit : ℕ) (buf : List ℕ) (ss : List (List ℕ)) where
   unfolding out segs begin
   ranges-fit =
       rw (ran (opened limit buf) ss .state)
-      (all-each (λ r. 16 + r .end ≤ length buf) (fit-hull (length buf)) (begin limit) segs (all-map (Fits (length buf)) (λ s. 16 + end-of s ≤ length buf) (λ s f. f .1) segs all-fit) tt)
+      (all-each (λ r. 16 + r .end ≤ length buf) (fit-hull (length buf)) (begin limit) segs (all-map (Fits (length buf)) (λ s. (number : ℕ) → 16 + end-of s ≤ length buf) (λ s f _. f .1) segs all-fit) tt)
 
   -- a range that begins at 0 has come with a header
-  has-header : (e : ℕ) → out .state .ranges ≡ range 0 e ∷ [] → any heads segs ≡ true
+  has-header : (e number : ℕ) → out .state .ranges ≡ range 0 e number ∷ [] → any heads segs ≡ true
   unfolding out segs begin any
-  has-header e q = sym (or-false (any heads segs)) ∙ sym (all-heads (begin limit) segs) ∙ sym (ap (λ (p : State). any at-zero (p .ranges)) (ran (opened limit buf) ss .state)) ∙ ap (any at-zero) q
+  has-header e number q = sym (or-false (any heads segs)) ∙ sym (all-heads (begin limit) segs) ∙ sym (ap (λ (p : State). any at-zero (p .ranges)) (ran (opened limit buf) ss .state)) ∙ ap (any at-zero) q
 
-  covers : (e x : ℕ) → out .state .ranges ≡ range 0 e ∷ [] → x < e → any (spans x) segs ≡ true
+  covers : (e number x : ℕ) → out .state .ranges ≡ range 0 e number ∷ [] → x < e → any (spans x) segs ≡ true
   unfolding out segs any
-  covers e x q h = sym (every-run limit buf ss .covers x) ∙ ap (λ (rs : List TpRange). covered rs x) q ∙ ap (λ (t : Bool). t || false) (is-held x (range 0 e) (omega arith) h)
+  covers e number x q h = sym (every-run limit buf ss .covers x) ∙ ap (λ (rs : List TpRange). covered rs x) q ∙ ap (λ (t : Bool). t || false) (is-held x (range 0 e number) (omega arith) h)
 
   complete-given : Complete (out .state) → Given out segs
   unfolding out segs taking
   complete-given c =
       let e : ℕ = c .held in
       let run = every-run limit buf ss in
+      let same : c .number ≡ out .state .count = one-number (out .state) (c .good) (every-number (out .state) (fed-reached (opened limit buf) ss (begins limit))) 0 e (c .number) (c .one-range) in
       let h : 16 + e ≤ length buf = subst (All (λ r. 16 + r .end ≤ length buf)) (c .one-range) ranges-fit .0 in
       let l : 16 + e ≤ length (out .buffer) = omega (arith, run .filled .size) in
       let g : ready (out .state) (length (out .buffer)) ≡ accepted e = ready-given (out .state) (out .buffer) c l in
       record {
         size = e;
-        one-range = c .one-range;
+        one-range = c .one-range ∙ ap (λ (x : ℕ). range 0 e x ∷ []) same;
         answer = g;
         buffer = rw g;
-        reported = rw g (reported buf segs (out .buffer) (run .filled) e l all-fit (has-header e (c .one-range)) (λ x. covers e x (c .one-range)));
+        reported = rw g (reported buf segs (out .buffer) (run .filled) e l all-fit (has-header e (c .number) (c .one-range)) (λ x. covers e (c .number) x (c .one-range)));
       }
 
 pub every-report : EveryReport

@@ -10,14 +10,14 @@ use lib.Dec.{ltb}
 use lib.ListN.{length}
 use Rattle.numbers.specs.Refusals.{Refusal, conflicting-end}
 use Rattle.numbers.specs.Rules.{Follows}
-use Rattle.numbers.proofs.TestLaws.{below, unequal, fails, lacks}
+use Rattle.numbers.proofs.TestLaws.{below, at-most, unequal, fails, lacks}
 use Rattle.numbers.proofs.RuleLaws.{follows-accepted, follows-if, follows-when}
 use Rattle.tp_machine.specs.declared.TpRange.{TpRange}
 use Rattle.tp_machine.specs.declared.TpEnd.{TpEnd}
 use Rattle.tp_machine.specs.declared.TpEnd.the-variants.{Unknown, Known}
 use Rattle.tp_machine.specs.Segments.{is-segment, more, size, end-of}
 use Rattle.tp_machine.specs.Ranges.{greatest-end}
-use Rattle.tp_machine.specs.Machine.{most, State, bad-state, not-aligned, conflicts, previous, data-past, taken, judged, begun}
+use Rattle.tp_machine.specs.Machine.{most, last-number, State, bad-state, not-aligned, conflicts, previous, data-past, taken, judged, begun}
 use Rattle.tp_machine.specs.Taking.{complete, end-held, ready}
 use Rattle.tp_machine.specs.Rules.{begin-rules, Conflict, Behind, segment-rules, taking-rules}
 use Rattle.tp_machine.specs.Theorems.{RulesFollowed}
@@ -72,7 +72,8 @@ segment-follows p seg room =
     (follows-when _ _ _ (behind-means (p .ranges) (more seg) (end-of seg))
     (follows-if _ _ (below room (16 + end-of seg))
     (follows-if _ _ (below most (length (taken p seg .ranges)))
-    (follows-accepted tt))))))))
+    (follows-if _ _ (at-most last-number (p .count))
+    (follows-accepted tt)))))))))
 
 taking-follows : (p : State) (room : ℕ) → Follows (ready p room) (taking-rules p room)
 unfolding ready

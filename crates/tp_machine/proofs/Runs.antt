@@ -2,12 +2,12 @@
 use Prim.Native.Nat.{ℕ, _+_, _≤_, _<_, min, max}
 use mathlib.Core.Path.{_≡_, refl, sym, ap, subst, _∙_}
 use mathlib.Core.Bool.{Bool, true, false, _||_, not, cond, or-assoc, or-false}
-use mathlib.Core.List.{List, [], _∷_}
+use mathlib.Core.List.{List, [], _∷_, _++_, append-assoc, append-nil}
 use mathlib.Core.Logic.{_⊎_, inl, inr}
 use native.Mathlib.Omega.{arith}
 use borrow.Author.Tests.{leb-true, leb-false}
 use lib.Dec.{leb}
-use lib.ListN.{length, getD}
+use lib.ListN.{length, getD, length-append}
 use Rattle.numbers.specs.Answers.{accepted, refused, Verdict, pass, All}
 use Rattle.numbers.proofs.AnswerLaws.{all-map}
 use Rattle.tp_machine.specs.declared.TpRange.{TpRange}
@@ -18,13 +18,14 @@ use Rattle.tp_machine.specs.Segments.{offset, more, end-of, header, writ
 use Rattle.tp_machine.specs.Ranges.{any, hull-of, joined}
 use Rattle.tp_machine.specs.Machine.{State, taken, judged, Out, begin, opened, fed}
 use Rattle.tp_machine.specs.Meaning.{range-of, Good, Accepted}
-use Rattle.tp_machine.specs.Runs.{Has, Made, Lies, if-accepted, admitted, holds, covered, spans, brought, heads, final, Ended, Filled}
+use Rattle.tp_machine.specs.Runs.{Has, Made, Lies, Numbered, if-accepted, admitted, holds, covered, spans, brought, heads, final, Ended, Filled}
 use Rattle.tp_machine.specs.Theorems.{EveryRun}
 use Rattle.numbers.proofs.TestLaws.{or-swap}
 use Rattle.tp_machine.proofs.Lists.{each-one, latest-of, newest, newest-none, newest-latest}
 use Rattle.tp_machine.proofs.Joining.{all-joined, new-lies, still-lies, joining-covers, at-zero, joined-at-zero}
 use Rattle.tp_machine.proofs.Tests.{accepted-means, taken-good}
 use Rattle.tp_machine.proofs.Steps.{step-accepted, step-refused, begin-good}
+use Rattle.tp_machine.proofs.Numbers.{taken-numbered}
 use Rattle.tp_machine.proofs.Writing.{written-length, written-head, written-at}
 
 -- ---- what accepted segments make of a state and of a buffer
@@ -75,19 +76,21 @@ ran o (s ∷ ss) = go (λ x. ran x ss) (judged (o .state) s (length (o .buffer))
         subst (Goes (o .state) (o .buffer) s ss) (sym (step-refused (o .state) s (o .buffer) r e)) (later x)
 
 -- ---- which places are covered, whether a range begins at 0, which end is known
-module _ (f : TpRange → Bool) (one : (n : TpRange) (rs : List TpRange) → any f (joined n rs) ≡ (f n || any f rs)) where
-  any-taken : (p : State) (ss : List (List ℕ)) → any f (taken-all p ss .ranges) ≡ (any (λ s. f (range-of s)) ss || any f (p .ranges))
+-- (f tests a range, g a segment as f tests its range, whatever its number)
+module _ (f : TpRange → Bool) (g : List ℕ → Bool) (same : (number : ℕ) (s : List ℕ) → f (range-of number s) ≡ g s) (one : (n : TpRange) (rs : List TpRange) → any f (joined n rs) ≡ (f n || any f rs)) where
+  any-taken : (p : State) (ss : List (List ℕ)) → any f (taken-all p ss .ranges) ≡ (any g ss || any f (p .ranges))
   unfolding taken-all any
   any-taken p [] = refl
   any-taken p (s ∷ ss) =
-      any-taken (taken p s) ss ∙ ap (_||_ (any (λ t. f (range-of t)) ss)) (one (range-of s) (p .ranges))
-      ∙ or-swap (any (λ t. f (range-of t)) ss) (f (range-of s)) (any f (p .ranges)) ∙ sym (or-assoc (f (range-of s)) (any (λ t. f (range-of t)) ss) (any f (p .ranges)))
+      any-taken (taken p s) ss ∙ ap (_||_ (any g ss)) (one (range-of (p .count + 1) s) (p .ranges) ∙ ap (λ (t : Bool). t || any f (p .ranges)) (same (p .count + 1) s))
+      ∙ or-swap (any g ss) (g s) (any f (p .ranges)) ∙ sym (or-assoc (g s) (any g ss) (any f (p .ranges)))
 
 pub all-covers : (x : ℕ) (p : State) (ss : List (List ℕ)) → covered (taken-all p ss .ranges) x ≡ (any (spans x) ss || covered (p .ranges) x)
-all-covers x = any-taken (holds x) (λ n rs. joining-covers n rs x)
+unfolding holds
+all-covers x = any-taken (holds x) (spans x) (λ number s. refl) (λ n rs. joining-covers n rs x)
 
 pub all-heads : (p : State) (ss : List (List ℕ)) → any at-zero (taken-all p ss .ranges) ≡ (any heads ss || any at-zero (p .ranges))
-all-heads = any-taken at-zero joined-at-zero
+all-heads = any-taken at-zero heads (λ number s. refl) joined-at-zero
 
 end-after : (m : Bool) (e k : TpEnd) → cond m e k ≡ cond (not m) k e
 end-after true e k = refl
@@ -104,10 +107,10 @@ all-limit p [] = refl
 all-limit p (s ∷ ss) = all-limit (taken p s) ss
 
 -- ---- what each segment's range has, and hulls keep, each range has
-pub all-each : (P : TpRange → Type 0) → ((g r : TpRange) → P g → P r → P (hull-of g r)) → (p : State) (ss : List (List ℕ)) → All (λ s. P (range-of s)) ss → All P (p .ranges) → All P (taken-all p ss .ranges)
+pub all-each : (P : TpRange → Type 0) → ((g r : TpRange) → P g → P r → P (hull-of g r)) → (p : State) (ss : List (List ℕ)) → All (λ s. (number : ℕ) → P (range-of number s)) ss → All P (p .ranges) → All P (taken-all p ss .ranges)
 unfolding taken-all
 all-each P f p [] a e = e
-all-each P f p (s ∷ ss) a e = all-each P f (taken p s) ss (a .1) (all-joined P (range-of s) f (p .ranges) (a .0) e)
+all-each P f p (s ∷ ss) a e = all-each P f (taken p s) ss (a .1) (all-joined P (range-of (p .count + 1) s) f (p .ranges) (a .0 (p .count + 1)) e)
 
 pub chain-good : (p : State) (room : ℕ) (ss : List (List ℕ)) → Chain p room ss → Good p → Good (taken-all p ss)
 unfolding taken-all
@@ -152,17 +155,32 @@ hull-made segs g r a b = record {
 all-made : (segs : List (List ℕ)) (p : State) → p .ranges ≡ [] → All (Made segs) (taken-all p segs .ranges)
 all-made segs p e =
     all-each (Made segs) (hull-made segs) p segs
-    (all-map (λ s. OneOf s segs) (λ s. Made segs (range-of s)) (λ s o. record { begins-at = record { segment = s; among = o; there = refl }; ends-at = record { segment = s; among = o; there = refl } }) segs (each-one segs)) (rw e tt)
+    (all-map (λ s. OneOf s segs) (λ s. (number : ℕ) → Made segs (range-of number s)) (λ s o number. record { begins-at = record { segment = s; among = o; there = refl }; ends-at = record { segment = s; among = o; there = refl } }) segs (each-one segs)) (rw e tt)
 
 stays : (s : List ℕ) (p : State) (ss : List (List ℕ)) → Lies (p .ranges) s → Lies (taken-all p ss .ranges) s
 unfolding taken-all
 stays s p [] h = h
-stays s p (t ∷ ss) h = stays s (taken p t) ss (still-lies s (range-of t) (p .ranges) h)
+stays s p (t ∷ ss) h = stays s (taken p t) ss (still-lies s (range-of (p .count + 1) t) (p .ranges) h)
 
 all-lie : (p : State) (ss : List (List ℕ)) → All (Lies (taken-all p ss .ranges)) ss
 unfolding taken-all
 all-lie p [] = tt
-all-lie p (s ∷ ss) = (stays s (taken p s) ss (new-lies s (p .ranges)), all-lie (taken p s) ss)
+all-lie p (s ∷ ss) = (stays s (taken p s) ss (new-lies (p .count + 1) s (p .ranges)), all-lie (taken p s) ss)
+
+-- ---- how many there are, and of each range which of them came last
+all-count : (p : State) (ss : List (List ℕ)) → taken-all p ss .count ≡ p .count + length ss
+unfolding taken-all
+all-count p [] = omega arith
+all-count p (s ∷ ss) = omega (arith, all-count (taken p s) ss)
+
+-- (they come behind others)
+all-numbered : (p : State) (room : ℕ) (before ss : List (List ℕ)) → Chain p room ss → p .count ≡ length before → All (Numbered before) (p .ranges) → All (Numbered (before ++ ss)) (taken-all p ss .ranges)
+unfolding taken-all
+all-numbered p room before [] h c n = rw (append-nil before) n
+all-numbered p room before (s ∷ ss) h c n =
+    let one : length (before ++ (s ∷ [])) ≡ length before + 1 = length-append before (s ∷ []) in
+    subst (λ (segs : List (List ℕ)). All (Numbered segs) (taken-all (taken p s) ss .ranges)) (append-assoc before (s ∷ []) ss)
+    (all-numbered (taken p s) room (before ++ (s ∷ [])) ss (h .1) (omega arith) (taken-numbered p s (h .0 .good) before c n))
 
 -- ---- the newest bytes: place i of a buffer, of which a segment s gives it what it gives exactly when a test passes
 pub all-length : (b : List ℕ) (ss : List (List ℕ)) → All (Fits (length b)) ss → length (written-all b ss) ≡ length b
@@ -214,6 +232,8 @@ every-run limit buf ss =
       covers = covers;
       made = rw (k .state) (all-made segs (begin limit) refl);
       lie = rw (k .state) (all-lie (begin limit) segs);
+      counted = ap (λ (p : State). p .count) (k .state) ∙ all-count (begin limit) segs ∙ omega arith;
+      numbered = rw (k .state) (all-numbered (begin limit) (length buf) [] segs (k .chain) refl tt);
       ended = rw (k .state) (ended (begin limit) segs refl);
       filled = fill;
       under = λ x h. let w = latest-of (spans x) segs (sym (covers x) ∙ h) in (w .0, w .1, fill .covers x (w .0) (w .1));

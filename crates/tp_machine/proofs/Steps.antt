@@ -4,7 +4,7 @@
 use Prim.Native.Nat.{ℕ, _+_, _≤_}
 use mathlib.Core.Path.{_≡_, refl, sym, ap, subst, _∙_}
 use mathlib.Core.Bool.{Bool, true, false}
-use mathlib.Core.List.{List, [], _∷_}
+use mathlib.Core.List.{List, [], _∷_, map}
 use native.Mathlib.Omega.{arith}
 use borrow.Author.Tests.{ltb-false, lt-ltb, le-ltb, not-false}
 use lib.Dec.{ltb}
@@ -15,12 +15,13 @@ use Rattle.numbers.specs.Refusals.{Refusal}
 use Rattle.numbers.specs.Answers.{Answer, accepted, refused, Verdict, pass, given, All}
 use Rattle.numbers.proofs.AnswerLaws.{not-refused, accepted-inj, when-accepted}
 use Rattle.tp_machine.specs.Segments.{written}
-use Rattle.tp_machine.specs.Machine.{highest, State, fresh, taken, judged, after, step, begin, clear}
+use Rattle.tp_machine.specs.Ranges.{joined}
+use Rattle.tp_machine.specs.Machine.{highest, State, fresh, taken, judged, Out, after, step, begin, fed, clear}
 use Rattle.tp_machine.specs.Taking.{complete, end-held, ready, finished, report, taking}
 use Rattle.tp_machine.specs.Meaning.{range, range-of, Fine, Good, Complete}
-use Rattle.tp_machine.specs.Runs.{begins, comes, clears}
+use Rattle.tp_machine.specs.Runs.{Reached, begins, comes, clears, unnumbered}
 use Rattle.tp_machine.specs.Theorems.{Stepped, EveryStep, TakenFrom, EveryTaking, Empties, BytesUnseen, RangesDepend, NeverMalformed}
-use Rattle.tp_machine.proofs.Joining.{joining-order-unseen}
+use Rattle.tp_machine.proofs.Joining.{joining-order-unseen, joined-unnumbered}
 use Rattle.tp_machine.proofs.Tests.{accepted-means, complete-means, taken-good}
 use Rattle.tp_machine.proofs.Writing.{pasted-length}
 
@@ -41,11 +42,19 @@ bytes-unseen p seg b c e = (every-step p seg b .answer ∙ ap (judged p seg) e �
     go (accepted u) = refl
     go (refused r) = refl
 
+-- the ranges after an accepted segment
+ranges-after : (p : State) (seg buf : List ℕ) → step p seg buf .answer ≡ pass → step p seg buf .state .ranges ≡ joined (range-of (p .count + 1) seg) (p .ranges)
+ranges-after p seg buf x = ap (λ (q : State). q .ranges) (every-step p seg buf .accepts x .0)
+
+-- and what they span
+spans-after : (p : State) (seg buf : List ℕ) → step p seg buf .answer ≡ pass → map unnumbered (step p seg buf .state .ranges) ≡ joined (range-of 0 seg) (map unnumbered (p .ranges))
+spans-after p seg buf x = ap (map unnumbered) (ranges-after p seg buf x) ∙ joined-unnumbered (range-of (p .count + 1) seg) (p .ranges)
+
 pub ranges-depend : RangesDepend
-ranges-depend p q seg b c x y r =
-    let after-p : step p seg b .state ≡ taken p seg = every-step p seg b .accepts x .0 in
-    let after-q : step q seg c .state ≡ taken q seg = every-step q seg c .accepts y .0 in
-    rw (after-p, after-q) (joining-order-unseen (range-of seg) (p .ranges) (q .ranges) r)
+ranges-depend = record {
+  with-numbers = λ p q seg b c x y same r. rw (ranges-after p seg b x, ranges-after q seg c y, same) (joining-order-unseen (range-of (q .count + 1) seg) (p .ranges) (q .ranges) r);
+  without = λ p q seg b c x y r. rw (spans-after p seg b x, spans-after q seg c y) (joining-order-unseen (range-of 0 seg) (map unnumbered (p .ranges)) (map unnumbered (q .ranges)) r);
+}
 
 pub step-accepted : (p : State) (seg buf : List ℕ) (u : Unit {0}) → judged p seg (length buf) ≡ accepted u → step p seg buf ≡ record { answer = pass; state = taken p seg; buffer = written buf seg }
 unfolding step after
@@ -58,7 +67,7 @@ step-refused p seg buf r e = rw e
 -- ---- taking
 
 -- a stream that is ready: it is complete, with one range that ends at e, and the buffer has room
-ready-means : (p : State) (room e : ℕ) → ready p room ≡ accepted e → Complete p × (p .ranges ≡ range 0 e ∷ []) × (16 + e ≤ room)
+ready-means : (p : State) (room e : ℕ) → ready p room ≡ accepted e → (number : ℕ) × Complete p × (p .ranges ≡ range 0 e number ∷ []) × (16 + e ≤ room)
 unfolding ready
 ready-means p room e h =
     let (a, k) = when-accepted _ _ _ e h in
@@ -67,13 +76,13 @@ ready-means p room e h =
     let w = complete-means p .0 (not-false (complete p) b) in
     let held : end-held (p .ranges) ≡ w .held = ap end-held (w .one-range) in
     let ends : end-held (p .ranges) ≡ e = accepted-inj _ e m in
-    (w, w .one-range ∙ ap (λ (x : ℕ). range 0 x ∷ []) (sym held ∙ ends), omega (arith, ltb-false room (16 + end-held (p .ranges)) c))
+    (w .number, w, w .one-range ∙ ap (λ (x : ℕ). range 0 x (w .number) ∷ []) (sym held ∙ ends), omega (arith, ltb-false room (16 + end-held (p .ranges)) c))
 
 -- what an end that is given tells: the report fits the buffer, and is no longer than a limit
 pub ready-tells : (p : State) (room e : ℕ) → accepted e ≡ ready p room → (16 + e ≤ room) × (e ≤ highest)
 ready-tells p room e q =
-    let (w, one, fits) = ready-means p room e (sym q) in
-    let fine : All (Fine p) (range 0 e ∷ []) = subst (All (Fine p)) one (w .good .each) in
+    let (number, w, one, fits) = ready-means p room e (sym q) in
+    let fine : All (Fine p) (range 0 e number ∷ []) = subst (All (Fine p)) one (w .good .each) in
     (fits, omega (arith, fine .0 .within, w .good .low))
 
 pub every-taking : EveryTaking
@@ -83,7 +92,7 @@ every-taking p buf = go (ready p (length buf)) refl
     go : (a : Answer ℕ) → ready p (length buf) ≡ a → TakenFrom p buf (record { answer = a; buffer = finished a buf; part = report a (finished a buf) })
     go (accepted e) h = record {
       answer = sym h;
-      accepts = λ x q. let same : e ≡ x = accepted-inj e x q in rw (← same) (ready-means p (length buf) e h .1, refl, refl);
+      accepts = λ x q. let same : e ≡ x = accepted-inj e x q in let w = ready-means p (length buf) e h in rw (← same) (w .0, w .2, refl, refl);
       refuses = λ r q. not-refused r e (sym q);
     }
     go (refused r) h = record { answer = sym h; accepts = λ x q. not-refused r x q; refuses = λ _ _. (refl, refl) }
@@ -99,16 +108,17 @@ pub part-length : (p : State) (buf : List ℕ) (e : ℕ) → taking p buf .answe
 unfolding taking
 part-length p buf e q =
     let long : length (finished (ready p (length buf)) buf) ≡ length buf = finished-length p buf (ready p (length buf)) refl in
-    let part : taking p buf .part ≡ take (16 + e) (finished (ready p (length buf)) buf) = every-taking p buf .accepts e q .2 in
+    let part : taking p buf .part ≡ take (16 + e) (finished (ready p (length buf)) buf) = every-taking p buf .accepts e q .3 in
     ap length part ∙ length-take-le (16 + e) (finished (ready p (length buf)) buf) (omega (arith, ready-tells p (length buf) e (sym q)))
 
 -- ---- a stream that is begun or cleared holds nothing
 pub empties : Empties
 unfolding begin clear
 empties = record {
-  begins = λ limit h. record { limit-is = rw (le-ltb highest limit h); no-range = refl; no-end = refl };
-  refuses = λ limit h. record { limit-is = rw (lt-ltb highest limit h); no-range = refl; no-end = refl };
-  clears = λ p. record { limit-is = refl; no-range = refl; no-end = refl };
+  begins = λ limit h. record { limit-is = rw (le-ltb highest limit h); no-range = refl; no-end = refl; none-counted = refl };
+  refuses = λ limit h. record { limit-is = rw (lt-ltb highest limit h); no-range = refl; no-end = refl; none-counted = refl };
+  clears = λ p. record { limit-is = refl; no-range = refl; no-end = refl; none-counted = refl };
+  cleared-is-begun = λ p h. rw (le-ltb highest (p .limit) h);
 }
 
 -- ---- no malformed state is come to
@@ -127,7 +137,7 @@ pub begin-good : (limit : ℕ) → Good (begin limit)
 unfolding begin
 begin-good limit = fresh-good (begin limit .limit) (begin-low limit)
 
-step-good : (p : State) (seg buf : List ℕ) → Good p → Good (step p seg buf .state)
+pub step-good : (p : State) (seg buf : List ℕ) → Good p → Good (step p seg buf .state)
 unfolding step after
 step-good p seg buf g = go (judged p seg (length buf)) refl
   where
@@ -140,3 +150,8 @@ unfolding clear
 never-malformed p (begins limit) = begin-good limit
 never-malformed q (comes {p} r seg buf) = step-good p seg buf (never-malformed p r)
 never-malformed q (clears {p} r) = fresh-good (p .limit) (never-malformed p r .low)
+
+pub fed-reached : (o : Out) (ss : List (List ℕ)) → Reached (o .state) → Reached (fed o ss .state)
+unfolding fed
+fed-reached o [] r = r
+fed-reached o (s ∷ ss) r = fed-reached (step (o .state) s (o .buffer)) ss (comes r s (o .buffer))

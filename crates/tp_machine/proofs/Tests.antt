@@ -1,18 +1,18 @@
 -- The machine's tests mean what the rules say in plain words, both ways; and an accepted segment leaves no malformed state.
 -- Assumes nothing.
-use Prim.Native.Nat.{ℕ, _+_, _-_, _%_, _≤_, max}
+use Prim.Native.Nat.{ℕ, _+_, _-_, _%_, _≤_, _<_, max}
 use mathlib.Core.Path.{_≡_, refl, sym, ap, _∙_}
 use mathlib.Core.Bool.{Bool, true, false, not, cond, or-false, or-true, false≢true}
 use mathlib.Core.List.{List, [], _∷_}
 use mathlib.Core.Logic.{inl, inr, ⊎-elim, _↔_}
 use native.Mathlib.Nat.{le-refl}
 use native.Mathlib.Omega.{arith}
-use borrow.Author.Tests.{ltb-false, le-ltb, eqb-true, eq-eqb, not-true, not-false}
-use lib.Dec.{ltb, eqb}
+use borrow.Author.Tests.{leb-false, lt-leb, ltb-false, le-ltb, eqb-true, eqb-false, eq-eqb, ne-eqb, not-true, not-false}
+use lib.Dec.{leb, ltb, eqb}
 use lib.ListN.{length, getD}
 use Rattle.numbers.specs.Bytes.{at32}
 use Rattle.numbers.specs.Answers.{All}
-use Rattle.numbers.specs.Refusals.{not-a-segment, segment-too-big, unaligned, conflicting-end, buffer-too-short, ranges-full, malformed-state}
+use Rattle.numbers.specs.Refusals.{not-a-segment, segment-too-big, unaligned, conflicting-end, buffer-too-short, ranges-full, malformed-state, count-full}
 use Rattle.numbers.proofs.AnswerLaws.{when-accepted, when-pass, all-map}
 use Rattle.tp_machine.specs.declared.TpRange.{TpRange}
 use Rattle.tp_machine.specs.declared.TpEnd.{TpEnd}
@@ -20,7 +20,7 @@ use Rattle.tp_machine.specs.declared.TpEnd.the-variants.{Unknown, Known}
 use Rattle.tp_machine.specs.Lists.{OneOf}
 use Rattle.tp_machine.specs.Segments.{tp-type, is-segment, offset, more, size, end-of}
 use Rattle.tp_machine.specs.Ranges.{any, hull-of, some-touch, greatest-end}
-use Rattle.tp_machine.specs.Machine.{most, highest, State, end-before, bad-range, end-past, bad-state, too-big, not-aligned, conflicts, previous, data-past, too-short, taken, too-many, judged}
+use Rattle.tp_machine.specs.Machine.{most, highest, last-number, State, end-before, never-given, bad-range, end-past, bad-state, too-big, not-aligned, conflicts, previous, data-past, too-short, taken, too-many, counted-out, judged}
 use Rattle.tp_machine.specs.Taking.{is-known, whole, complete}
 use Rattle.tp_machine.specs.Meaning.{types, range, range-of, NotBefore, Fine, Within, Good, Agrees, Closes, Accepted}
 use Rattle.tp_machine.specs.Theorems.{SegmentMeans, GoodMeans, AcceptedMeans, CompleteMeans}
@@ -62,14 +62,27 @@ not-before-means : (e : TpEnd) (x : ℕ) → (end-before e x ≡ false) ↔ NotB
 not-before-means Unknown x = ((λ e. tt), (λ h. refl))
 not-before-means (Known e) x = (ltb-false e x, le-ltb e x)
 
+given-means : (count number : ℕ) → (never-given count number ≡ false) ↔ ((1 ≤ number) × (number ≤ count))
+given-means count number = (
+  (λ e.
+      let a = or-inv (eqb number 0) (ltb count number) e in
+      let some : number ≡ 0 → ⊥ = eqb-false number 0 (a .0) in
+      (omega (arith, some), ltb-false count number (a .1))),
+  (λ h. neither _ _ (ne-eqb number 0 (λ e. absurd (omega (arith, h .0)))) (le-ltb count number (h .1))),
+)
+
 fine-means : (p : State) (r : TpRange) → (bad-range p r ≡ false) ↔ Fine p r
 unfolding bad-range
 fine-means p r = (
   (λ e.
       let a = or-inv (ltb (r .end) (r .start)) _ e in
       let b = or-inv (ltb (p .limit) (r .end)) _ (a .1) in
-      record { forth = ltb-false (r .end) (r .start) (a .0); within = ltb-false (p .limit) (r .end) (b .0); not-past = not-before-means (p .end) (r .end) .0 (b .1) }),
-  (λ f. neither _ _ (le-ltb (r .end) (r .start) (f .forth)) (neither _ _ (le-ltb (p .limit) (r .end) (f .within)) (not-before-means (p .end) (r .end) .1 (f .not-past)))),
+      let c = or-inv (end-before (p .end) (r .end)) _ (b .1) in
+      let d = given-means (p .count) (r .number) .0 (c .1) in
+      record { forth = ltb-false (r .end) (r .start) (a .0); within = ltb-false (p .limit) (r .end) (b .0); not-past = not-before-means (p .end) (r .end) .0 (c .0); given = d .0; counted = d .1 }),
+  (λ f.
+      neither _ _ (le-ltb (r .end) (r .start) (f .forth)) (neither _ _ (le-ltb (p .limit) (r .end) (f .within))
+      (neither _ _ (not-before-means (p .end) (r .end) .1 (f .not-past)) (given-means (p .count) (r .number) .1 (f .given, f .counted))))),
 )
 
 within-means : (e : TpEnd) (x : ℕ) → (end-past e x ≡ false) ↔ Within e x
@@ -97,7 +110,7 @@ good-means p = (
       (neither _ _ (within-means (p .end) (p .limit) .1 (g .end-within)) (neither _ _ (all-any (bad-range p) (p .ranges) each) (all-apart (p .ranges) .1 (g .apart)))))),
 )
 
--- ---- 31 to 35
+-- ---- 31 to 35, and 39
 aligned-means : (seg : List ℕ) → (not-aligned seg ≡ false) ↔ (more seg ≡ true → size seg % 16 ≡ 0)
 aligned-means seg = (
   (λ e h. eqb-true (size seg % 16) 0 (not-false (eqb (size seg % 16) 0) (and-fails (more seg) (not (eqb (size seg % 16) 0)) e h))),
@@ -129,6 +142,7 @@ accepted-means p seg room = (
       let g = when-accepted (conflicting-end (greatest-end (p .ranges)) (end-of seg)) (data-past (p .ranges) (more seg) (end-of seg)) _ tt (f .1) in
       let h = when-accepted (buffer-too-short (16 + end-of seg)) (too-short seg room) _ tt (g .1) in
       let i = when-accepted ranges-full (too-many p seg) _ tt (h .1) in
+      let j = when-accepted count-full (counted-out p) _ tt (i .1) in
       record {
         good = good-means p .0 (a .0);
         segment = segment-means seg .0 (not-false (is-segment seg) (b .0));
@@ -138,6 +152,7 @@ accepted-means p seg room = (
         closes = closes-means (p .ranges) (more seg) (end-of seg) .0 (g .0);
         fits = ltb-false room (16 + end-of seg) (h .0);
         few = ltb-false most (length (taken p seg .ranges)) (i .0);
+        number-left = leb-false last-number (p .count) (j .0);
       }),
   (λ t.
       when-pass malformed-state (bad-state p) _ (good-means p .1 (t .good))
@@ -147,7 +162,8 @@ accepted-means p seg room = (
       ∙ when-pass (conflicting-end (previous (p .end)) (end-of seg)) (conflicts (p .end) (more seg) (end-of seg)) _ (agrees-means (p .end) (more seg) (end-of seg) .1 (t .agrees))
       ∙ when-pass (conflicting-end (greatest-end (p .ranges)) (end-of seg)) (data-past (p .ranges) (more seg) (end-of seg)) _ (closes-means (p .ranges) (more seg) (end-of seg) .1 (t .closes))
       ∙ when-pass (buffer-too-short (16 + end-of seg)) (too-short seg room) _ (le-ltb room (16 + end-of seg) (t .fits))
-      ∙ when-pass ranges-full (too-many p seg) _ (le-ltb most (length (taken p seg .ranges)) (t .few))),
+      ∙ when-pass ranges-full (too-many p seg) _ (le-ltb most (length (taken p seg .ranges)) (t .few))
+      ∙ when-pass count-full (counted-out p) _ (lt-leb last-number (p .count) (t .number-left))),
 )
 
 -- ---- 37
@@ -155,9 +171,9 @@ known-means : (e : TpEnd) → is-known e ≡ true → (x : ℕ) × (e ≡ Known 
 known-means Unknown h = absurd (false≢true h)
 known-means (Known x) h = (x, refl)
 
-pub whole-means : (rs : List TpRange) → whole rs ≡ true → (e : ℕ) × (rs ≡ range 0 e ∷ [])
+pub whole-means : (rs : List TpRange) → whole rs ≡ true → (e number : ℕ) × (rs ≡ range 0 e number ∷ [])
 whole-means [] h = absurd (false≢true h)
-whole-means (r ∷ []) h = (r .end, ap (λ (x : ℕ). range x (r .end) ∷ []) (eqb-true (r .start) 0 h))
+whole-means (r ∷ []) h = (r .end, r .number, ap (λ (x : ℕ). range x (r .end) (r .number) ∷ []) (eqb-true (r .start) 0 h))
 whole-means (r ∷ x ∷ rs) h = absurd (false≢true h)
 
 pub complete-means : CompleteMeans
@@ -168,7 +184,7 @@ complete-means p = (
       let b = and-inv (is-known (p .end)) (whole (p .ranges)) (a .1) in
       let k = known-means (p .end) (b .0) in
       let w = whole-means (p .ranges) (b .1) in
-      record { good = good-means p .0 (not-true (bad-state p) (a .0)); end = k .0; known = k .1; held = w .0; one-range = w .1 }),
+      record { good = good-means p .0 (not-true (bad-state p) (a .0)); end = k .0; known = k .1; held = w .0; number = w .1; one-range = w .2 }),
   (λ c. rw (good-means p .1 (c .good), ap is-known (c .known), ap whole (c .one-range))),
 )
 
@@ -193,11 +209,11 @@ not-before-both (Known e) x y h k = omega arith
 
 fine-hull : (p : State) (g r : TpRange) → Fine p g → Fine p r → Fine p (hull-of g r)
 unfolding hull-of
-fine-hull p g r f h = record { forth = omega arith; within = omega arith; not-past = not-before-both (p .end) (g .end) (r .end) (f .not-past) (h .not-past) }
+fine-hull p g r f h = record { forth = omega arith; within = omega arith; not-past = not-before-both (p .end) (g .end) (r .end) (f .not-past) (h .not-past); given = omega arith; counted = omega arith }
 
 -- a range that was fine stays so, where a final segment does not end before it
 still-fine : (p : State) (seg : List ℕ) (r : TpRange) → Fine p r → (more seg ≡ false → r .end ≤ end-of seg) → Fine (taken p seg) r
-still-fine p seg r f h = record { forth = f .forth; within = f .within; not-past = not-before-old (more seg) (p .end) (end-of seg) (r .end) (f .not-past) h }
+still-fine p seg r f h = record { forth = f .forth; within = f .within; not-past = not-before-old (more seg) (p .end) (end-of seg) (r .end) (f .not-past) h; given = f .given; counted = omega (arith, f .counted) }
 
 all-still-fine : (p : State) (seg : List ℕ) (rs : List TpRange) → All (Fine p) rs → Closes rs (more seg) (end-of seg) → All (Fine (taken p seg)) rs
 all-still-fine p seg [] a c = tt
@@ -210,9 +226,9 @@ taken-good p seg room t =
       few = t .few;
       low = g .low;
       end-within = within-after (more seg) (p .end) (end-of seg) (p .limit) (t .within) (g .end-within);
-      each = all-joined (Fine (taken p seg)) (range-of seg) (fine-hull (taken p seg)) (p .ranges)
-          (record { forth = omega arith; within = t .within; not-past = not-before-new (more seg) (p .end) (end-of seg) (t .agrees) })
+      each = all-joined (Fine (taken p seg)) (range-of (p .count + 1) seg) (fine-hull (taken p seg)) (p .ranges)
+          (record { forth = omega arith; within = t .within; not-past = not-before-new (more seg) (p .end) (end-of seg) (t .agrees); given = omega arith; counted = omega arith })
           (all-still-fine p seg (p .ranges) (g .each) (t .closes));
       apart = all-apart (taken p seg .ranges) .0
-          (joined-apart (range-of seg) (p .ranges) (all-apart (p .ranges) .1 (g .apart)) (all-map (Fine p) (λ r. r .start ≤ r .end) (λ r f. f .forth) (p .ranges) (g .each)));
+          (joined-apart (range-of (p .count + 1) seg) (p .ranges) (all-apart (p .ranges) .1 (g .apart)) (all-map (Fine p) (λ r. r .start ≤ r .end) (λ r f. f .forth) (p .ranges) (g .each)));
     }

@@ -4,12 +4,15 @@ use Rattle.tp_machine.proofs.Tests.{segment-means, good-means, accepted
 use Rattle.tp_machine.proofs.RuleLaws.{rules-followed}
 use Rattle.tp_machine.proofs.Writing.{header-means}
 use Rattle.tp_machine.proofs.Steps.{every-step, every-taking, empties, bytes-unseen, ranges-depend, never-malformed}
+use Rattle.tp_machine.proofs.Lists.{latest-one}
+use Rattle.tp_machine.proofs.Numbers.{every-number}
 use Rattle.tp_machine.proofs.Joining.{joining-covers, joining-order-unseen}
 use Rattle.tp_machine.proofs.Greatest.{greatest-means}
 use Rattle.tp_machine.proofs.Runs.{every-run}
 use Rattle.tp_machine.proofs.Report.{every-report}
 use Rattle.tp_machine.proofs.Ends.{end-is-greatest, complete-ends, every-end}
 use Rattle.tp_machine.proofs.Unseen.{set-is-order, order-unseen, runs-alike}
+use Rattle.tp_machine.proofs.Unnumbered.{numbers-unseen, runs-hide-numbers}
 use Rattle.tp_machine.proofs.Order.{order}
 use Rattle.tp_machine.proofs.Cases.{cases}
 use Rattle.tp_machine.proofs.Bounds.{bounds}
@@ -34,12 +37,16 @@ theorems = record {
   never-malformed = never-malformed;
   end-is-greatest = end-is-greatest;
   complete-ends = complete-ends;
+  every-number = every-number;
+  latest-is-one = latest-one;
   every-run = every-run;
   every-report = every-report;
   every-end = every-end;
   set-is-order = set-is-order;
   order-unseen = order-unseen;
   runs-alike = runs-alike;
+  numbers-unseen = numbers-unseen;
+  runs-hide-numbers = runs-hide-numbers;
   cases = cases;
   bounds = bounds;
 }

@@ -1,5 +1,5 @@
 -- The order of the ranges is not seen: states with the same ranges answer alike, and come to states with the same ranges. Assumes nothing.
-use Prim.Native.Nat.{ℕ, _≤_}
+use Prim.Native.Nat.{ℕ, _+_, _≤_}
 use mathlib.Core.Path.{_≡_, refl, sym, ap, subst, _∙_}
 use mathlib.Core.Bool.{Bool, true, false, not, and-false}
 use mathlib.Core.List.{List, [], _∷_}
@@ -38,7 +38,7 @@ set-is-order p q g h s = same-elements (p .ranges) (q .ranges) (well p g) (well 
 
 -- a list that is whole has no other order
 whole-one : {rs qs : List TpRange} → Rearranged rs qs → whole rs ≡ true → rs ≡ qs
-whole-one {rs} {qs} r e = let w = whole-means rs e in w .1 ∙ sym (one-moved r (range 0 (w .0)) (w .1))
+whole-one {rs} {qs} r e = let w = whole-means rs e in w .2 ∙ sym (one-moved r (range 0 (w .0) (w .1)) (w .2))
 
 whole-moved : {rs qs : List TpRange} → Rearranged rs qs → whole rs ≡ whole qs
 whole-moved {rs} {qs} r = same-test (whole rs) (whole qs) (λ e. sym (ap whole (whole-one r e)) ∙ e) (λ e. sym (ap whole (whole-one (moved-back r) e)) ∙ e)
@@ -48,15 +48,15 @@ ready-none : (p : State) (room : ℕ) → complete p ≡ false → ready p room 
 unfolding ready refuse_when_else_
 ready-none p room e = rw e
 
-abbrev state : ℕ → TpEnd → List TpRange → State
-state limit end rs = record { limit = limit; ranges = rs; end = end }
+abbrev state : ℕ → TpEnd → ℕ → List TpRange → State
+state limit end count rs = record { limit = limit; ranges = rs; end = end; count = count }
 
-module _ (limit : ℕ) (end : TpEnd) (rs qs : List TpRange) (r : Rearranged rs qs) where
+module _ (limit : ℕ) (end : TpEnd) (count : ℕ) (rs qs : List TpRange) (r : Rearranged rs qs) where
   p : State
-  p = state limit end rs
+  p = state limit end count rs
 
   q : State
-  q = state limit end qs
+  q = state limit end count qs
 
   bad-moved : bad-state p ≡ bad-state q
   unfolding p q bad-state bad-range
@@ -64,19 +64,19 @@ module _ (limit : ℕ) (end : TpEnd) (rs qs : List TpRange) (r : Rearranged rs q
 
   same-after : (seg : List ℕ) → Same (taken p seg) (taken q seg)
   unfolding p q
-  same-after seg = record { limit = refl; ranges = joining-order-unseen (range-of seg) rs qs r; end = refl }
+  same-after seg = record { limit = refl; ranges = joining-order-unseen (range-of (count + 1) seg) rs qs r; end = refl; count = refl }
 
   judged-moved : (seg : List ℕ) (room : ℕ) → judged p seg room ≡ judged q seg room
   unfolding p q judged
-  judged-moved seg room = rw (bad-moved, greatest-moved r, length-moved (joining-order-unseen (range-of seg) rs qs r))
+  judged-moved seg room = rw (bad-moved, greatest-moved r, length-moved (joining-order-unseen (range-of (count + 1) seg) rs qs r))
 
-  step-moved : (seg buf : List ℕ) → Alike (step p seg buf) (step q seg buf)
+  step-moved : (seg buf : List ℕ) → Alike Same (step p seg buf) (step q seg buf)
   unfolding p q step after
   step-moved seg buf = rw (judged-moved seg (length buf)) (go (judged q seg (length buf)))
     where
-      go : (v : Verdict) → Alike (after v p seg buf) (after v q seg buf)
+      go : (v : Verdict) → Alike Same (after v p seg buf) (after v q seg buf)
       go (accepted u) = record { answer = refl; state = same-after seg; buffer = refl }
-      go (refused x) = record { answer = refl; state = record { limit = refl; ranges = r; end = refl }; buffer = refl }
+      go (refused x) = record { answer = refl; state = record { limit = refl; ranges = r; end = refl; count = refl }; buffer = refl }
 
   complete-moved : complete p ≡ complete q
   unfolding p q complete
@@ -91,7 +91,7 @@ module _ (limit : ℕ) (end : TpEnd) (rs qs : List TpRange) (r : Rearranged rs q
   ready-moved room = go (whole rs) refl
     where
       go : (t : Bool) → whole rs ≡ t → ready p room ≡ ready q room
-      go true e = ap (λ (l : List TpRange). ready (state limit end l) room) (whole-one r e)
+      go true e = ap (λ (l : List TpRange). ready (state limit end count l) room) (whole-one r e)
       go false e = ready-none p room (not-whole e) ∙ ap (λ (b : Bool). refuse malformed-state when b else refused not-complete) bad-moved ∙ sym (ready-none q room (sym complete-moved ∙ not-whole e))
 
   taking-moved : (buf : List ℕ) → taking p buf ≡ taking q buf
@@ -104,7 +104,7 @@ module _ (limit : ℕ) (end : TpEnd) (rs qs : List TpRange) (r : Rearranged rs q
 
 pub order-unseen : OrderUnseen
 unfolding p q
-order-unseen p q s = subst (Unseen p) (rw (s .limit, s .end)) (unseen (p .limit) (p .end) (p .ranges) (q .ranges) (s .ranges))
+order-unseen p q s = subst (Unseen p) (rw (s .limit, s .end, s .count)) (unseen (p .limit) (p .end) (p .count) (p .ranges) (q .ranges) (s .ranges))
 
 pub runs-alike : RunsAlike
 unfolding fed

@@ -138,7 +138,7 @@ module _ (buf s : List ℕ) (long : 20 ≤ length s) (fits : 16 + end-of s ≤ l
 
   -- a place of the payload
   pub written-at : (x : ℕ) → getD (written buf s) (16 + x) 0 ≡ cond (spans x s) (brought x s) (getD buf (16 + x) 0)
-  unfolding written under
+  unfolding written under holds
   written-at x = go (spans x s) refl
     where
       behind : (x < offset s) ⊎ (end-of s ≤ x) → (16 + x < 16 + offset s) ⊎ (16 + offset s + length (payload s) ≤ 16 + x)
@@ -147,7 +147,7 @@ module _ (buf s : List ℕ) (long : 20 ≤ length s) (fits : 16 + end-of s ≤ l
 
       go : (t : Bool) → spans x s ≡ t → getD (written buf s) (16 + x) 0 ≡ cond t (brought x s) (getD buf (16 + x) 0)
       go true e =
-          let k = held x (range-of s) e in
+          let k = held x (range-of 0 s) e in
           let z : 16 + x - (16 + offset s) ≡ x - offset s = omega arith in
           pasted-in (under (heads s)) (16 + offset s) (payload s) room (16 + x) (omega arith) (omega arith) ∙ ap (λ (m : ℕ). getD (payload s) m 0) z
-      go false e = pasted-out (under (heads s)) (16 + offset s) (payload s) room (16 + x) (behind (missed x (range-of s) e)) ∙ under-rest (heads s) (16 + x) (omega arith)
+      go false e = pasted-out (under (heads s)) (16 + offset s) (payload s) room (16 + x) (behind (missed x (range-of 0 s) e)) ∙ under-rest (heads s) (16 + x) (omega arith)

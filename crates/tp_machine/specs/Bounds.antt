@@ -1,6 +1,6 @@
 -- Computed beside the marked case: the rules' unmarked cases of joining, and both sides of the lines that those cases leave open: what is a
--- segment, another end, how many ranges are held, the highest limit, the buffer's length, each rule of 38, and which bytes a segment writes. The
--- marked case is in specs/Cases.antt. Assumes nothing: these are definitions.
+-- segment, another end, how many ranges are held, the numbers of arrival, the highest limit, the buffer's length, each rule of 38, and which bytes a
+-- segment writes. The marked case is in specs/Cases.antt. Assumes nothing: these are definitions.
 use Prim.Native.Nat.{ℕ, zero, suc, _+_, _*_}
 use mathlib.Core.Path.{_≡_}
 use mathlib.Core.Bool.{Bool, true, false}
@@ -111,14 +111,18 @@ Full =
 abbrev pub OddEven : Type 0
 OddEven = seen (after-all (apart 0 64 ++ (16 final-at 2032 ∷ apart 16 63))) ≡ record { answer = pass; complete = true; length-field = 2056 }
 
--- ---- 38: n ranges of no byte, apart; and states that hold these ranges
+-- ---- 38: n ranges of no byte, apart; and states that hold these ranges, all of them of the one segment that was accepted
 
 abbrev pub spread : ℕ → List TpRange
 spread zero = []
-spread (suc n) = range n n ∷ spread n
+spread (suc n) = range n n 1 ∷ spread n
 
 abbrev pub holding-these : (limit : ℕ) → List TpRange → TpEnd → State
-holding-these limit rs end = record { limit = limit; ranges = rs; end = end }
+holding-these limit rs end = record { limit = limit; ranges = rs; end = end; count = 1 }
+
+-- a state that holds 0 to 16 with that number, after so many accepted segments
+abbrev pub numbered : (number count : ℕ) → State
+numbered number count = record { limit = 2112; ranges = range 0 16 number ∷ []; end = Unknown; count = count }
 
 pub record Malformed : Type 0 where
   pub sixty-four : bad-state (holding-these 64 (spread 64) Unknown) ≡ false
@@ -127,17 +131,21 @@ pub record Malformed : Type 0 where
   pub past-highest : bad-state (fresh 65521) ≡ true
   pub end-at-limit : bad-state (holding-these 64 [] (Known 64)) ≡ false
   pub end-past-limit : bad-state (holding-these 64 [] (Known 65)) ≡ true
-  pub range-to-limit : bad-state (holding-these 64 (range 64 64 ∷ []) Unknown) ≡ false
-  pub range-past-limit : bad-state (holding-these 64 (range 64 65 ∷ []) Unknown) ≡ true
-  pub range-to-end : bad-state (holding-these 64 (range 0 32 ∷ []) (Known 32)) ≡ false
-  pub range-past-end : bad-state (holding-these 64 (range 0 32 ∷ []) (Known 31)) ≡ true
-  pub range-backwards : bad-state (holding-these 64 (range 2 1 ∷ []) Unknown) ≡ true
-  pub ranges-apart : bad-state (holding-these 64 (range 0 1 ∷ range 2 3 ∷ []) Unknown) ≡ false
-  pub ranges-touch : bad-state (holding-these 64 (range 0 1 ∷ range 1 2 ∷ []) Unknown) ≡ true
+  pub range-to-limit : bad-state (holding-these 64 (range 64 64 1 ∷ []) Unknown) ≡ false
+  pub range-past-limit : bad-state (holding-these 64 (range 64 65 1 ∷ []) Unknown) ≡ true
+  pub range-to-end : bad-state (holding-these 64 (range 0 32 1 ∷ []) (Known 32)) ≡ false
+  pub range-past-end : bad-state (holding-these 64 (range 0 32 1 ∷ []) (Known 31)) ≡ true
+  pub range-backwards : bad-state (holding-these 64 (range 2 1 1 ∷ []) Unknown) ≡ true
+  pub ranges-apart : bad-state (holding-these 64 (range 0 1 1 ∷ range 2 3 1 ∷ []) Unknown) ≡ false
+  pub ranges-touch : bad-state (holding-these 64 (range 0 1 1 ∷ range 1 2 1 ∷ []) Unknown) ≡ true
+  pub number-zero : bad-state (numbered 0 5) ≡ true
+  pub number-one : bad-state (numbered 1 5) ≡ false
+  pub number-of-count : bad-state (numbered 5 5) ≡ false
+  pub number-past-count : bad-state (numbered 6 5) ≡ true
 
 -- a state with a range past its end, which would else be complete: 38, and nothing is written
 abbrev pub overrun : State
-overrun = holding-these 64 (range 0 32 ∷ []) (Known 16)
+overrun = holding-these 64 (range 0 32 1 ∷ []) (Known 16)
 
 pub record OverrunRefused : Type 0 where
   pub comes : step overrun (16 final-at 0) (replicate 80 9) ≡ record { answer = refused (refusal 38 []); state = overrun; buffer = replicate 80 9 }
@@ -145,18 +153,55 @@ pub record OverrunRefused : Type 0 where
   pub taken : taking overrun (replicate 80 9) ≡ record { answer = refused (refusal 38 []); buffer = replicate 80 9; part = [] }
   pub cleared : clear overrun ≡ fresh 64
 
+-- ---- numbers of arrival
+
+-- what is seen of them after a call: its answer, the count and the ranges
+pub record Numbering : Type 0 where
+  pub answer : Verdict
+  pub count : ℕ
+  pub ranges : List TpRange
+
+abbrev pub numbering : Out → Numbering
+numbering o = record { answer = o .answer; count = o .state .count; ranges = o .state .ranges }
+
+-- 16 bytes at 16 come to a state
+abbrev pub sixteen-to : State → Numbering
+sixteen-to p = numbering (step p (16 more-at 16) (replicate 48 9))
+
+pub record Arrivals : Type 0 where
+  -- the larger number is kept: of two that touch, and where a third joins them
+  pub of-two : numbering (after-all (16 more-at 0 ∷ 16 more-at 16 ∷ [])) ≡ record { answer = pass; count = 2; ranges = range 0 32 2 ∷ [] }
+  pub of-three : numbering (after-all (16 more-at 32 ∷ 16 more-at 0 ∷ 16 more-at 16 ∷ [])) ≡ record { answer = pass; count = 3; ranges = range 0 48 3 ∷ [] }
+  -- a range that is not touched keeps its own
+  pub of-others : numbering (after-all (16 more-at 0 ∷ 16 more-at 64 ∷ 16 more-at 16 ∷ [])) ≡ record { answer = pass; count = 3; ranges = range 64 80 2 ∷ range 0 32 3 ∷ [] }
+  -- one that was there already has come again, and one without a byte has come
+  pub again : numbering (after-all (16 more-at 0 ∷ 16 more-at 0 ∷ [])) ≡ record { answer = pass; count = 2; ranges = range 0 16 2 ∷ [] }
+  pub empty : numbering (after-all (16 more-at 0 ∷ 0 more-at 16 ∷ [])) ≡ record { answer = pass; count = 2; ranges = range 0 16 2 ∷ [] }
+  -- a refused one between counts nowhere
+  pub refused-between : numbering (after-all (16 more-at 0 ∷ 15 more-at 16 ∷ [])) ≡ record { answer = refused (refusal 32 (16 ∷ 15 ∷ [])); count = 1; ranges = range 0 16 1 ∷ [] }
+  pub refused-and-on : numbering (after-all (16 more-at 0 ∷ 15 more-at 16 ∷ 16 more-at 16 ∷ [])) ≡ record { answer = pass; count = 2; ranges = range 0 32 2 ∷ [] }
+  -- cleared, they begin at 1
+  pub cleared : sixteen-to (clear (numbered 5 5)) ≡ record { answer = pass; count = 1; ranges = range 16 32 1 ∷ [] }
+  -- the last number is given; then 39, until the stream is cleared
+  pub last-given : sixteen-to (numbered 1 4294967294) ≡ record { answer = pass; count = 4294967295; ranges = range 0 32 4294967295 ∷ [] }
+  pub counted-out : sixteen-to (numbered 1 4294967295) ≡ record { answer = refused (refusal 39 []); count = 4294967295; ranges = range 0 16 1 ∷ [] }
+  pub cleared-at-last : sixteen-to (clear (numbered 1 4294967295)) ≡ record { answer = pass; count = 1; ranges = range 16 32 1 ∷ [] }
+  -- a report is taken at the last number all the same
+  pub taken-at-last : taking (record { limit = 64; ranges = range 0 16 7 ∷ []; end = Known 16; count = 4294967295 }) (replicate 32 9) .answer ≡ accepted 16
+
 pub record Bounds : Type 0 where
   pub cases : Hold unmarked
   pub segment-lines : SegmentLines
   pub ends-known : Hold ends
   pub ends-below : Hold ends-behind
   -- where both rules of 33 hold, the end that is known is the previous one
-  pub known-end-first : step (holding-these 64 (range 0 32 ∷ []) (Known 64)) (16 final-at 0) (replicate 80 9) .answer ≡ refused (refusal 33 (64 ∷ 16 ∷ []))
+  pub known-end-first : step (holding-these 64 (range 0 32 1 ∷ []) (Known 64)) (16 final-at 0) (replicate 80 9) .answer ≡ refused (refusal 33 (64 ∷ 16 ∷ []))
   pub fills : Fills
   pub full : Full
   pub odd-even : OddEven
   pub malformed : Malformed
   pub overrun-refused : OverrunRefused
+  pub arrivals : Arrivals
   -- the highest limit, and one more
   pub highest : (begun 65520 ≡ pass) × (begin 65520 ≡ fresh 65520)
   pub too-high : (begun 65521 ≡ refused (refusal 36 (65521 ∷ []))) × (begin 65521 ≡ fresh 0)

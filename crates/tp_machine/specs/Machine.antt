@@ -4,8 +4,8 @@ use Prim.Native.Nat.{ℕ, _+_, _%_}
 use mathlib.Core.Bool.{Bool, false, _&&_, _||_, not, cond}
 use mathlib.Core.List.{List, [], _∷_}
 use lib.ListN.{length}
-use lib.Dec.{ltb, eqb}
-use Rattle.numbers.specs.Refusals.{not-a-segment, segment-too-big, unaligned, conflicting-end, buffer-too-short, ranges-full, limit-too-large, malformed-state}
+use lib.Dec.{leb, ltb, eqb}
+use Rattle.numbers.specs.Refusals.{not-a-segment, segment-too-big, unaligned, conflicting-end, buffer-too-short, ranges-full, limit-too-large, malformed-state, count-full}
 use Rattle.numbers.specs.Answers.{accepted, refused, Verdict, pass, refuse_when_else_}
 use Rattle.tp_machine.specs.declared.TpRange.{TpRange}
 use Rattle.tp_machine.specs.declared.TpEnd.{TpEnd}
@@ -13,21 +13,26 @@ use Rattle.tp_machine.specs.declared.TpEnd.the-variants.{Unknown, Known}
 use Rattle.tp_machine.specs.Segments.{is-segment, offset, more, size, end-of, written}
 use Rattle.tp_machine.specs.Ranges.{any, joined, some-touch, greatest-end}
 
--- how many ranges are held at most, and the highest payload limit
+-- how many ranges are held at most, the highest payload limit, and the last number that a segment can have
 abbrev pub most : ℕ
 most = 64
 
 abbrev pub highest : ℕ
 highest = 65520
 
+abbrev pub last-number : ℕ
+last-number = 4294967295
+
+-- `count` is that of the segments accepted since the stream was begun or cleared
 pub record State : Type 0 where
   pub limit : ℕ
   pub ranges : List TpRange
   pub end : TpEnd
+  pub count : ℕ
 
 -- a state that holds nothing
 abbrev pub fresh : ℕ → State
-fresh limit = record { limit = limit; ranges = []; end = Unknown }
+fresh limit = record { limit = limit; ranges = []; end = Unknown; count = 0 }
 
 -- ---- 38: the states that are malformed
 
@@ -36,9 +41,13 @@ abbrev pub end-before : TpEnd → ℕ → Bool
 end-before Unknown x = false
 end-before (Known e) x = ltb e x
 
--- a range that ends before its start, past the limit or past a known end
+-- a number that no accepted segment has had: they have 1 up to the count
+abbrev pub never-given : (count number : ℕ) → Bool
+never-given count number = eqb number 0 || ltb count number
+
+-- a range that ends before its start, past the limit or past a known end, or whose number was never given
 unfoldable pub bad-range : State → TpRange → Bool
-bad-range p r = ltb (r .end) (r .start) || (ltb (p .limit) (r .end) || end-before (p .end) (r .end))
+bad-range p r = ltb (r .end) (r .start) || (ltb (p .limit) (r .end) || (end-before (p .end) (r .end) || never-given (p .count) (r .number)))
 
 -- a known end past x
 abbrev pub end-past : TpEnd → ℕ → Bool
@@ -49,7 +58,7 @@ end-past (Known e) x = ltb x e
 unfoldable pub bad-state : State → Bool
 bad-state p = ltb most (length (p .ranges)) || (ltb highest (p .limit) || (end-past (p .end) (p .limit) || (any (bad-range p) (p .ranges) || some-touch (p .ranges))))
 
--- ---- 31 to 35: what is wrong with a segment, in a state and a buffer of `room` bytes
+-- ---- 31 to 35, and 39: what is wrong with a segment, in a state and a buffer of `room` bytes
 
 abbrev pub too-big : State → List ℕ → Bool
 too-big p seg = ltb (p .limit) (end-of seg)
@@ -73,17 +82,22 @@ data-past rs m x = not m && ltb x (greatest-end rs)
 abbrev pub too-short : List ℕ → ℕ → Bool
 too-short seg room = ltb room (16 + end-of seg)
 
--- the state after a segment was accepted: its range joined, and a final segment sets the end
+-- the state after a segment was accepted: its range joined, with the next number, and a final segment sets the end
 abbrev pub taken : State → List ℕ → State
 taken p seg = record {
   limit = p .limit;
-  ranges = joined (record { start = offset seg; end = end-of seg }) (p .ranges);
+  ranges = joined (record { start = offset seg; end = end-of seg; number = p .count + 1 }) (p .ranges);
   end = cond (more seg) (p .end) (Known (end-of seg));
+  count = p .count + 1;
 }
 
 -- more ranges than may be held, after joining
 abbrev pub too-many : State → List ℕ → Bool
 too-many p seg = ltb most (length (taken p seg .ranges))
+
+-- no number is left for a further segment
+abbrev pub counted-out : State → Bool
+counted-out p = leb last-number (p .count)
 
 -- the first refusal of a segment
 unfoldable pub judged : State → List ℕ → ℕ → Verdict
@@ -96,6 +110,7 @@ judged p seg room =
     refuse conflicting-end (greatest-end (p .ranges)) (end-of seg) when data-past (p .ranges) (more seg) (end-of seg) else
     refuse buffer-too-short (16 + end-of seg) when too-short seg room else
     refuse ranges-full when too-many p seg else
+    refuse count-full when counted-out p else
     pass
 
 -- ---- the calls
@@ -131,6 +146,6 @@ unfoldable pub fed : Out → List (List ℕ) → Out
 fed o [] = o
 fed o (seg ∷ segs) = fed (step (o .state) seg (o .buffer)) segs
 
--- clearing forgets ranges and end, and keeps the limit
+-- clearing forgets ranges, end and count, and keeps the limit
 unfoldable pub clear : State → State
 clear p = fresh (p .limit)

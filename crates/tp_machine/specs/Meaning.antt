@@ -14,7 +14,7 @@ use Rattle.tp_machine.specs.declared.TpEnd.the-variants.{Unknown, Known}
 use Rattle.tp_machine.specs.Lists.{OneOf, Pairwise}
 use Rattle.tp_machine.specs.Segments.{offset, more, size}
 use Rattle.tp_machine.specs.Ranges.{joined}
-use Rattle.tp_machine.specs.Machine.{most, highest, State}
+use Rattle.tp_machine.specs.Machine.{most, highest, last-number, State}
 
 -- ---- not 30
 
@@ -38,12 +38,12 @@ pub record HeaderOf (s h : List ℕ) : Type 0 where
   pub type : Cleared (getD s 14 0) (getD h 14 0)
   pub others : (i : ℕ) → i < 16 → i ≢ 14 → getD h i 0 ≡ getD s i 0
 
--- a range, and the one that a segment spans
-abbrev pub range : (start end : ℕ) → TpRange
-range start end = record { start = start; end = end }
+-- a range, and the one that a segment of that number spans
+abbrev pub range : (start end number : ℕ) → TpRange
+range start end number = record { start = start; end = end; number = number }
 
-abbrev pub range-of : List ℕ → TpRange
-range-of s = range (offset s) (offset s + size s)
+abbrev pub range-of : (number : ℕ) → List ℕ → TpRange
+range-of number s = range (offset s) (offset s + size s) number
 
 -- ---- not 38
 
@@ -56,11 +56,13 @@ abbrev pub NotBefore : TpEnd → ℕ → Type 0
 NotBefore Unknown x = Unit {0}
 NotBefore (Known e) x = x ≤ e
 
--- a range as a state may hold it
+-- a range as a state may hold it: its number is one that an accepted segment has had
 pub record Fine (p : State) (r : TpRange) : Type 0 where
   pub forth : r .start ≤ r .end
   pub within : r .end ≤ p .limit
   pub not-past : NotBefore (p .end) (r .end)
+  pub given : 1 ≤ r .number
+  pub counted : r .number ≤ p .count
 
 -- an end, if known, is at most x
 abbrev pub Within : TpEnd → ℕ → Type 0
@@ -74,7 +76,7 @@ pub record Good (p : State) : Type 0 where
   pub each : All (Fine p) (p .ranges)
   pub apart : Pairwise Apart (p .ranges)
 
--- ---- not 31 to 35
+-- ---- not 31 to 35, nor 39
 
 -- not 33, twice: where an end is known, the new end x isn't past it, and a final segment has that end
 abbrev pub Agrees : TpEnd → (more : Bool) (x : ℕ) → Type 0
@@ -101,7 +103,8 @@ pub record Accepted (p : State) (seg : List ℕ) (room : ℕ) : Type 0 where
   pub agrees : Agrees (p .end) (more seg) (offset seg + size seg)
   pub closes : Closes (p .ranges) (more seg) (offset seg + size seg)
   pub fits : 16 + (offset seg + size seg) ≤ room
-  pub few : length (joined (range-of seg) (p .ranges)) ≤ most
+  pub few : length (joined (range-of (p .count + 1) seg) (p .ranges)) ≤ most
+  pub number-left : p .count < last-number
 
 -- ---- not 37
 pub record Complete (p : State) : Type 0 where
@@ -109,4 +112,5 @@ pub record Complete (p : State) : Type 0 where
   pub end : ℕ
   pub known : p .end ≡ Known end
   pub held : ℕ
-  pub one-range : p .ranges ≡ range 0 held ∷ []
+  pub number : ℕ
+  pub one-range : p .ranges ≡ range 0 held number ∷ []

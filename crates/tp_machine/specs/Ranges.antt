@@ -14,9 +14,9 @@ any f (x ∷ xs) = f x || any f xs
 unfoldable pub touch : TpRange → TpRange → Bool
 touch a b = leb (a .start) (b .end) && leb (b .start) (a .end)
 
--- the least range that holds both
+-- the least range that holds both, with the larger number
 unfoldable pub hull-of : TpRange → TpRange → TpRange
-hull-of a b = record { start = min (a .start) (b .start); end = max (a .end) (b .end) }
+hull-of a b = record { start = min (a .start) (b .start); end = max (a .end) (b .end); number = max (a .number) (b .number) }
 
 -- r in front of rs where the test fails
 abbrev pub unless : Bool → TpRange → List TpRange → List TpRange

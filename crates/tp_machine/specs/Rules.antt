@@ -1,6 +1,6 @@
 -- The rules of joining in plain words and in their order, each refusal with its number and its values. The machine follows them
 -- (specs/Theorems.antt): each call is refused exactly by the first rule whose condition holds. Assumes nothing: these are definitions.
-use Prim.Native.Nat.{ℕ, _+_, _%_, _<_}
+use Prim.Native.Nat.{ℕ, _+_, _%_, _≤_, _<_}
 use mathlib.Core.Path.{_≡_}
 use mathlib.Core.Bool.{Bool, true, false}
 use mathlib.Core.List.{List, [], _∷_}
@@ -48,7 +48,8 @@ segment-rules p seg room =
     part (Conflict (p .end) (more seg) (end-of seg)) else
     part (Behind (p .ranges) (more seg) (end-of seg)) else
     refusal 34 ((16 + end-of seg) ∷ []) if room < 16 + end-of seg else
-    refusal 35 [] if most < length (joined (range-of seg) (p .ranges)) else
+    refusal 35 [] if most < length (joined (range-of (p .count + 1) seg) (p .ranges)) else
+    refusal 39 [] if 4294967295 ≤ p .count else
     accept
 
 -- the report is taken

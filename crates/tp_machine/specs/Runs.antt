@@ -1,9 +1,10 @@
--- Runs of the machine: which segments were accepted, what the ranges cover, what the buffer holds, what the report is; and states that differ
--- only in the order of their ranges. Assumes nothing: these are definitions.
+-- Runs of the machine: which segments were accepted, what the ranges cover, what their numbers are, what the buffer holds, what the report is;
+-- and states that differ only in the order of their ranges, or only in numbers. Assumes nothing: these are definitions.
 use Prim.Native.Nat.{ℕ, _+_, _-_, _≤_, _<_}
 use mathlib.Core.Path.{_≡_}
 use mathlib.Core.Bool.{Bool, true, false, _&&_, not}
-use mathlib.Core.List.{List, [], _∷_, _++_}
+use mathlib.Core.List.{List, [], _∷_, _++_, map}
+use mathlib.Core.Logic.{_≢_}
 use lib.ListN.{length, getD}
 use lib.Dec.{leb, ltb, eqb}
 use Rattle.numbers.specs.Bytes.{be32}
@@ -11,11 +12,11 @@ use Rattle.numbers.specs.Answers.{accepted, refused, Verdict, All}
 use Rattle.tp_machine.specs.declared.TpRange.{TpRange}
 use Rattle.tp_machine.specs.declared.TpEnd.{TpEnd}
 use Rattle.tp_machine.specs.declared.TpEnd.the-variants.{Unknown, Known}
-use Rattle.tp_machine.specs.Lists.{OneOf, Rearranged, Latest}
+use Rattle.tp_machine.specs.Lists.{OneOf, Pairwise, Rearranged, Latest}
 use Rattle.tp_machine.specs.Segments.{offset, more, end-of, payload, header, pasted}
 use Rattle.tp_machine.specs.Ranges.{any}
-use Rattle.tp_machine.specs.Machine.{State, Out, step, begin, clear}
-use Rattle.tp_machine.specs.Meaning.{range-of}
+use Rattle.tp_machine.specs.Machine.{last-number, State, Out, step, begin, clear}
+use Rattle.tp_machine.specs.Meaning.{range}
 
 -- the states that runs come to: a stream is begun, segments come over whatever buffer, it is cleared (taking leaves the state as it was)
 pub data Reached : State → Type 0 where
@@ -44,7 +45,7 @@ covered rs x = any (holds x) rs
 
 -- the segment covers x, and the byte that it brings there
 abbrev pub spans : ℕ → List ℕ → Bool
-spans x s = holds x (range-of s)
+spans x s = leb (offset s) x && ltb x (end-of s)
 
 abbrev pub brought : ℕ → List ℕ → ℕ
 brought x s = getD (payload s) (x - offset s) 0
@@ -74,6 +75,12 @@ around s r = leb (r .start) (offset s) && leb (end-of s) (r .end)
 
 abbrev pub Lies : List TpRange → List ℕ → Type 0
 Lies rs s = any (around s) rs ≡ true
+
+-- a range that has the place, counted from 1, of the latest of them that lies in it
+pub record Numbered (segs : List (List ℕ)) (r : TpRange) : Type 0 where
+  pub segment : List ℕ
+  pub latest : Latest (λ s. around s r) segs segment
+  pub its-place : r .number ≡ length (latest .before) + 1
 
 -- the end that is known
 pub record Ended (segs : List (List ℕ)) (e : TpEnd) : Type 0 where
@@ -106,7 +113,13 @@ pub record Reported (segs : List (List ℕ)) (e : ℕ) (m : List ℕ) : Type 0 w
   pub all : (x : ℕ) → x < e → any (spans x) segs ≡ true
   pub newest : (x : ℕ) → x < e → (s : List ℕ) → Latest (spans x) segs s → getD bytes x 0 ≡ brought x s
 
--- ---- the order of the ranges
+-- ---- the numbers of a state: a count that 32 bits hold, no number twice, and the latest accepted segment's is some range's
+pub record Numbers (p : State) : Type 0 where
+  pub fits : p .count ≤ last-number
+  pub apart : Pairwise (λ a b. a .number ≢ b .number) (p .ranges)
+  pub latest : p .count ≢ 0 → (r : TpRange) × OneOf r (p .ranges) × (r .number ≡ p .count)
+
+-- ---- what is not seen: the order of the ranges, and numbers
 
 -- two lists of the same ranges, as sets
 pub record SameSet (rs qs : List TpRange) : Type 0 where
@@ -118,9 +131,20 @@ pub record Same (p q : State) : Type 0 where
   pub limit : p .limit ≡ q .limit
   pub ranges : Rearranged (p .ranges) (q .ranges)
   pub end : p .end ≡ q .end
+  pub count : p .count ≡ q .count
 
--- two calls that answer and leave the same
-pub record Alike (x y : Out) : Type 0 where
+-- a range without its number
+abbrev pub unnumbered : TpRange → TpRange
+unnumbered r = range (r .start) (r .end) 0
+
+-- two states that differ only in numbers and count
+pub record SamePlaces (p q : State) : Type 0 where
+  pub limit : p .limit ≡ q .limit
+  pub ranges : map unnumbered (p .ranges) ≡ map unnumbered (q .ranges)
+  pub end : p .end ≡ q .end
+
+-- two calls that answer alike, write the same, and leave states that are so related
+pub record Alike (Related : State → State → Type 0) (x y : Out) : Type 0 where
   pub answer : x .answer ≡ y .answer
-  pub state : Same (x .state) (y .state)
+  pub state : Related (x .state) (y .state)
   pub buffer : x .buffer ≡ y .buffer

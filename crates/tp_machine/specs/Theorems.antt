@@ -1,8 +1,8 @@
 -- What is shown of the machine: each a statement, and all of them together at the end. Assumes nothing: these are definitions.
 use Prim.Native.Nat.{ℕ, _+_, _≤_, _<_}
 use mathlib.Core.Path.{_≡_}
-use mathlib.Core.Bool.{true, false, _||_}
-use mathlib.Core.List.{List, [], _∷_}
+use mathlib.Core.Bool.{Bool, true, false, _||_}
+use mathlib.Core.List.{List, [], _∷_, map}
 use mathlib.Core.Logic.{_↔_}
 use lib.ListN.{length, take, getD}
 use Rattle.numbers.specs.Bytes.{be32}
@@ -14,11 +14,11 @@ use Rattle.tp_machine.specs.declared.TpEnd.the-variants.{Unknown, Known}
 use Rattle.tp_machine.specs.Lists.{Rearranged, Latest}
 use Rattle.tp_machine.specs.Segments.{is-segment, header, pasted, written}
 use Rattle.tp_machine.specs.Ranges.{any, joined, greatest-end}
-use Rattle.tp_machine.specs.Machine.{State, Out, bad-state, taken, judged, step, begun, begin, opened, fed, clear}
+use Rattle.tp_machine.specs.Machine.{highest, last-number, State, Out, bad-state, taken, judged, step, begun, begin, opened, fed, clear}
 use Rattle.tp_machine.specs.Taking.{complete, ready, Taken, taking}
 use Rattle.tp_machine.specs.Meaning.{Segment, HeaderOf, range, Good, Greatest, Accepted, Complete}
 use Rattle.tp_machine.specs.Rules.{begin-rules, segment-rules, taking-rules}
-use Rattle.tp_machine.specs.Runs.{Reached, admitted, holds, covered, spans, brought, Made, Lies, Ended, WholeEnds, Filled, Reported, SameSet, Same, Alike}
+use Rattle.tp_machine.specs.Runs.{Reached, admitted, holds, covered, spans, brought, Made, Lies, Numbered, Ended, WholeEnds, Filled, Reported, Numbers, SameSet, Same, unnumbered, SamePlaces, Alike}
 use Rattle.tp_machine.specs.Cases.{Cases}
 use Rattle.tp_machine.specs.Bounds.{Bounds}
 use Rattle.tp_machine.specs.Order.{Order}
@@ -54,11 +54,14 @@ pub record Empty (limit : ℕ) (p : State) : Type 0 where
   pub limit-is : p .limit ≡ limit
   pub no-range : p .ranges ≡ []
   pub no-end : p .end ≡ Unknown
+  pub none-counted : p .count ≡ 0
 
 pub record Empties : Type 0 where
   pub begins : (limit : ℕ) → limit ≤ 65520 → Empty limit (begin limit)
   pub refuses : (limit : ℕ) → 65520 < limit → Empty 0 (begin limit)
   pub clears : (p : State) → Empty (p .limit) (clear p)
+  -- so what is shown of a stream that was begun holds of one that was cleared
+  pub cleared-is-begun : (p : State) → p .limit ≤ highest → clear p ≡ begin (p .limit)
 
 -- ---- one call: its answer is the first refusal or none; what an accepted segment leaves, and that a refusal leaves state and buffer as they were
 pub record Stepped (p : State) (seg buf : List ℕ) (o : Out) : Type 0 where
@@ -73,7 +76,7 @@ EveryStep = (p : State) (seg buf : List ℕ) → Stepped p seg buf (step p seg b
 -- and hands back an empty part
 pub record TakenFrom (p : State) (buf : List ℕ) (t : Taken) : Type 0 where
   pub answer : t .answer ≡ ready p (length buf)
-  pub accepts : (e : ℕ) → t .answer ≡ accepted e → (p .ranges ≡ range 0 e ∷ []) × (t .buffer ≡ pasted buf 4 (be32 (e + 8))) × (t .part ≡ take (16 + e) (t .buffer))
+  pub accepts : (e : ℕ) → t .answer ≡ accepted e → (number : ℕ) × (p .ranges ≡ range 0 e number ∷ []) × (t .buffer ≡ pasted buf 4 (be32 (e + 8))) × (t .part ≡ take (16 + e) (t .buffer))
   pub refuses : (r : Refusal) → t .answer ≡ refused r → (t .buffer ≡ buf) × (t .part ≡ [])
 
 abbrev pub EveryTaking : Type 0
@@ -90,9 +93,13 @@ JoiningCovers = (n : TpRange) (rs : List TpRange) (x : ℕ) → covered (joined 
 abbrev pub JoiningOrderUnseen : Type 0
 JoiningOrderUnseen = (n : TpRange) (rs qs : List TpRange) → Rearranged rs qs → Rearranged (joined n rs) (joined n qs)
 
--- after an accepted segment that set depends on nothing else: neither on limit, end and order before, nor on the buffer
-abbrev pub RangesDepend : Type 0
-RangesDepend = (p q : State) (seg b c : List ℕ) → step p seg b .answer ≡ pass → step q seg c .answer ≡ pass → Rearranged (p .ranges) (q .ranges) → Rearranged (step p seg b .state .ranges) (step q seg c .state .ranges)
+-- after an accepted segment that set depends on nothing else: neither on limit, end and order before, nor on the buffer; what the ranges span does
+-- not depend on numbers and count either
+pub record RangesDepend : Type 0 where
+  pub with-numbers : (p q : State) (seg b c : List ℕ) → step p seg b .answer ≡ pass → step q seg c .answer ≡ pass → p .count ≡ q .count → Rearranged (p .ranges) (q .ranges)
+      → Rearranged (step p seg b .state .ranges) (step q seg c .state .ranges)
+  pub without : (p q : State) (seg b c : List ℕ) → step p seg b .answer ≡ pass → step q seg c .answer ≡ pass → Rearranged (map unnumbered (p .ranges)) (map unnumbered (q .ranges))
+      → Rearranged (map unnumbered (step p seg b .state .ranges)) (map unnumbered (step q seg c .state .ranges))
 
 -- ---- runs: no malformed state is come to, so that ranges stay apart and within the limit
 abbrev pub NeverMalformed : Type 0
@@ -102,9 +109,17 @@ NeverMalformed = (p : State) → Reached p → Good p
 abbrev pub EndIsGreatest : Type 0
 EndIsGreatest = (p : State) → Reached p → (e : ℕ) → p .end ≡ Known e → Greatest (p .ranges) e
 
--- so a complete stream's one range ends at the known end
+-- so a complete stream's one range ends at the known end; its number is the count
 abbrev pub CompleteEnds : Type 0
-CompleteEnds = (p : State) → Reached p → complete p ≡ true → (e : ℕ) × (p .end ≡ Known e) × (p .ranges ≡ range 0 e ∷ [])
+CompleteEnds = (p : State) → Reached p → complete p ≡ true → (e : ℕ) × (p .end ≡ Known e) × (p .ranges ≡ range 0 e (p .count) ∷ [])
+
+-- each accepted segment has had a number of its own
+abbrev pub EveryNumber : Type 0
+EveryNumber = (p : State) → Reached p → Numbers p
+
+-- the latest segment that passes a test has one place among them
+abbrev pub LatestIsOne : Type 0
+LatestIsOne = (test : List ℕ → Bool) (segs : List (List ℕ)) (s t : List ℕ) (l : Latest test segs s) (m : Latest test segs t) → (l .before ≡ m .before) × (s ≡ t) × (l .behind ≡ m .behind)
 
 -- what segments, accepted or refused, leave of a fresh stream over a buffer
 pub record Run (limit : ℕ) (buf : List ℕ) (ss : List (List ℕ)) : Type 0 where
@@ -113,6 +128,9 @@ pub record Run (limit : ℕ) (buf : List ℕ) (ss : List (List ℕ)) : Type 0 wh
   pub covers : (x : ℕ) → covered (fed (opened limit buf) ss .state .ranges) x ≡ any (spans x) (admitted (opened limit buf) ss)
   pub made : All (Made (admitted (opened limit buf) ss)) (fed (opened limit buf) ss .state .ranges)
   pub lie : All (Lies (fed (opened limit buf) ss .state .ranges)) (admitted (opened limit buf) ss)
+  -- how many were accepted, and of each range which of them came last
+  pub counted : fed (opened limit buf) ss .state .count ≡ length (admitted (opened limit buf) ss)
+  pub numbered : All (Numbered (admitted (opened limit buf) ss)) (fed (opened limit buf) ss .state .ranges)
   pub ended : Ended (admitted (opened limit buf) ss) (fed (opened limit buf) ss .state .end)
   pub filled : Filled buf (admitted (opened limit buf) ss) (fed (opened limit buf) ss .buffer)
   -- under the ranges stands what the latest accepted segment that covers the place brought, elsewhere what was lent
@@ -126,7 +144,7 @@ EveryRun = (limit : ℕ) (buf : List ℕ) (ss : List (List ℕ)) → Run limit b
 -- a complete stream's report is given, whatever came: the one range's bytes; of the buffer, bytes 4 to 7 change
 pub record Given (o : Out) (segs : List (List ℕ)) : Type 0 where
   pub size : ℕ
-  pub one-range : o .state .ranges ≡ range 0 size ∷ []
+  pub one-range : o .state .ranges ≡ range 0 size (o .state .count) ∷ []
   pub answer : taking (o .state) (o .buffer) .answer ≡ accepted size
   pub buffer : taking (o .state) (o .buffer) .buffer ≡ pasted (o .buffer) 4 (be32 (size + 8))
   pub reported : Reported segs size (taking (o .state) (o .buffer) .part)
@@ -139,7 +157,7 @@ EveryReport = (limit : ℕ) (buf : List ℕ) (ss : List (List ℕ)) → complete
 pub record Closed (o : Out) (segs : List (List ℕ)) : Type 0 where
   pub end : ℕ
   pub known : o .state .end ≡ Known end
-  pub one-range : o .state .ranges ≡ range 0 end ∷ []
+  pub one-range : o .state .ranges ≡ range 0 end (o .state .count) ∷ []
   pub whole : WholeEnds segs end
   pub report-length : length (taking (o .state) (o .buffer) .part) ≡ 16 + end
 
@@ -153,7 +171,7 @@ SetIsOrder = (p q : State) → Good p → Good q → SameSet (p .ranges) (q .ran
 -- no call sees it, in any state
 pub record Unseen (p q : State) : Type 0 where
   pub malformed : bad-state p ≡ bad-state q
-  pub step-alike : (seg buf : List ℕ) → Alike (step p seg buf) (step q seg buf)
+  pub step-alike : (seg buf : List ℕ) → Alike Same (step p seg buf) (step q seg buf)
   pub complete-alike : complete p ≡ complete q
   pub taking-alike : (buf : List ℕ) → taking p buf ≡ taking q buf
   pub clear-alike : clear p ≡ clear q
@@ -162,7 +180,25 @@ abbrev pub OrderUnseen : Type 0
 OrderUnseen = (p q : State) → Same p q → Unseen p q
 
 abbrev pub RunsAlike : Type 0
-RunsAlike = (x y : Out) → Alike x y → (ss : List (List ℕ)) → Alike (fed x ss) (fed y ss)
+RunsAlike = (x y : Out) → Alike Same x y → (ss : List (List ℕ)) → Alike Same (fed x ss) (fed y ss)
+
+-- ---- nor are numbers: well-formed states that differ only in them answer alike and leave states that differ only in them, but for 39
+pub record NumbersHidden (p q : State) : Type 0 where
+  pub step-alike : p .count < last-number → q .count < last-number → (seg buf : List ℕ) → Alike SamePlaces (step p seg buf) (step q seg buf)
+  pub complete-alike : complete p ≡ complete q
+  pub taking-alike : (buf : List ℕ) → taking p buf ≡ taking q buf
+  pub clear-alike : clear p ≡ clear q
+
+abbrev pub NumbersUnseen : Type 0
+NumbersUnseen = (p q : State) → SamePlaces p q → Good p → Good q → NumbersHidden p q
+
+-- nor by segments one after the other, as long as each has a number left
+pub record Ample (o : Out) (ss : List (List ℕ)) : Type 0 where
+  pub good : Good (o .state)
+  pub left : o .state .count + length ss ≤ last-number
+
+abbrev pub RunsHideNumbers : Type 0
+RunsHideNumbers = (x y : Out) (ss : List (List ℕ)) → Ample x ss → Ample y ss → Alike SamePlaces x y → Alike SamePlaces (fed x ss) (fed y ss)
 
 -- ---- all of them
 pub record Theorems : Type 0 where
@@ -185,12 +221,16 @@ pub record Theorems : Type 0 where
   pub never-malformed : NeverMalformed
   pub end-is-greatest : EndIsGreatest
   pub complete-ends : CompleteEnds
+  pub every-number : EveryNumber
+  pub latest-is-one : LatestIsOne
   pub every-run : EveryRun
   pub every-report : EveryReport
   pub every-end : EveryEnd
   pub set-is-order : SetIsOrder
   pub order-unseen : OrderUnseen
   pub runs-alike : RunsAlike
+  pub numbers-unseen : NumbersUnseen
+  pub runs-hide-numbers : RunsHideNumbers
   -- the rules' marked case, and what else is computed
   pub cases : Cases
   pub bounds : Bounds

@@ -16,8 +16,8 @@ use Rattle.tp_machine.specs.Machine.{most}
 use Rattle.tp_range.specs.Joining.{none, placed, fitted, joined-in}
 
 -- two ranges are equal by their fields
-pub range-eq : (a b : TpRange) → a .start ≡ b .start → a .end ≡ b .end → a ≡ b
-range-eq a b p q = λ i. record { start = p i; end = q i }
+pub range-eq : (a b : TpRange) → a .start ≡ b .start → a .end ≡ b .end → a .number ≡ b .number → a ≡ b
+range-eq a b p q r = λ i. record { start = p i; end = q i; number = r i }
 
 -- ---- one range more at the end
 unless-append : (b : Bool) (r : TpRange) (xs ys : List TpRange) → unless b r xs ++ ys ≡ unless b r (xs ++ ys)

@@ -11,7 +11,7 @@ use Rattle.tp_range.specs.declared.Joined.{Joined}
 
 -- a range that was never used
 abbrev pub none : TpRange
-none = record { start = 0; end = 0 }
+none = record { start = 0; end = 0; number = 0 }
 
 -- the array with rs in its first places, the places behind them as they were
 unfoldable pub placed : List TpRange → List TpRange → List TpRange

@@ -39,13 +39,14 @@ fn greatest(x: u32, y: u32) -> u32
     if x < y { y } else { x }
 }
 
-// The least range that holds both.
+// The least range that holds both, with the larger number.
 fn hull(a: TpRange, b: TpRange) -> TpRange
     ensures { λ r. ⌜ r ≡ hull-of a b ⌝ }
 {
     TpRange {
         start: least(a.start, b.start),
         end: greatest(a.end, b.end),
+        number: greatest(a.number, b.number),
     }
 }
 

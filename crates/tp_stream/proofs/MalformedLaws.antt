@@ -1,7 +1,7 @@
 -- 38, rule by rule, of a range and of a stream's record. Assumes nothing.
 use Prim.Native.Nat.{ℕ, _≤_, _<_}
 use mathlib.Core.Path.{_≡_, refl, sym, ap, _∙_}
-use mathlib.Core.Bool.{Bool, true, false, _||_, or-false}
+use mathlib.Core.Bool.{Bool, true, false, _||_, or-assoc, or-false}
 use native.Mathlib.Omega.{arith}
 use borrow.Author.Tests.{ltb-true, ltb-false, lt-ltb, le-ltb}
 use lib.Dec.{ltb}
@@ -10,7 +10,7 @@ use Rattle.tp_machine.specs.declared.TpRange.{TpRange}
 use Rattle.tp_machine.specs.declared.TpEnd.{TpEnd}
 use Rattle.tp_machine.specs.declared.TpEnd.the-variants.{Unknown, Known}
 use Rattle.tp_machine.specs.Ranges.{any, some-touch}
-use Rattle.tp_machine.specs.Machine.{most, highest, State, bad-range, end-past, bad-state}
+use Rattle.tp_machine.specs.Machine.{most, highest, State, end-before, never-given, bad-range, end-past, bad-state}
 use Rattle.tp_stream.specs.declared.TpStream.{TpStream}
 use Rattle.tp_stream.specs.Stream.{held, view}
 use Rattle.tp_stream.specs.Promises.{Reach}
@@ -35,9 +35,20 @@ module _ (p : State) (r : TpRange) where
   unfolding bad-range
   bad-early h = rw (lt-ltb (r .end) (r .start) h)
 
-  pub bad-late : (top : ℕ) → Reach p top → r .start ≤ r .end → ltb top (r .end) ≡ bad-range p r
+  -- the tests of limit and end are one test of how far it may reach
+  by-reach : (top : ℕ) → Reach p top → r .start ≤ r .end → bad-range p r ≡ (ltb top (r .end) || never-given (p .count) (r .number))
   unfolding bad-range
-  bad-late top reach h = rw (le-ltb (r .end) (r .start) h) (reach (r .end))
+  by-reach top reach h =
+      ap (λ (t : Bool). t || (ltb (p .limit) (r .end) || (end-before (p .end) (r .end) || never-given (p .count) (r .number)))) (le-ltb (r .end) (r .start) h)
+      ∙ sym (ap (λ (t : Bool). t || never-given (p .count) (r .number)) (reach (r .end)) ∙ or-assoc (ltb (p .limit) (r .end)) (end-before (p .end) (r .end)) (never-given (p .count) (r .number)))
+
+  module _ (top accepted : ℕ) (reach : Reach p top) (counts : p .count ≡ accepted) (h : r .start ≤ r .end) where
+    pub bad-late : top < r .end → true ≡ bad-range p r
+    bad-late late = sym (by-reach top reach h ∙ ap (λ (t : Bool). t || never-given (p .count) (r .number)) (lt-ltb top (r .end) late))
+
+    pub bad-number : r .end ≤ top → (b : Bool) → b ≡ never-given accepted (r .number) → b ≡ bad-range p r
+    bad-number low b e =
+        e ∙ sym (by-reach top reach h ∙ ap (λ (t : Bool). t || never-given (p .count) (r .number)) (le-ltb top (r .end) low) ∙ ap (λ (n : ℕ). never-given n (r .number)) counts)
 
 -- ---- a stream's faults, by the tests in their order
 module _ (s : TpStream) where

@@ -16,7 +16,7 @@ unused = refl
 pub record-holds : RecordHolds
 record-holds =
     record {
-      by-name = λ limit n array end few. λ i. record { limit = limit; ranges = held-take n array few i; end = end };
+      by-name = λ limit n array end accepted few. λ i. record { limit = limit; ranges = held-take n array few i; end = end; count = accepted };
       too-many = λ s h. sym (more-than-most s h);
       put-found = view-stored;
       places-kept = λ s p few. ap (drop (length (p .ranges))) (placed-over (s .ranges) (p .ranges) few) ∙ drop-at (p .ranges) (drop (length (p .ranges)) (s .ranges)) (length (p .ranges)) refl;

@@ -63,7 +63,7 @@ placed-held n rs = go (leb n (length rs)) refl
     go false e = many n rs (leb-false n (length rs) e)
 
 pub stored-view : (s : TpStream) → stored s (view s) ≡ s
-stored-view s = λ i. record { limit = s .limit; ranges = placed-held (s .count) (s .ranges) i; count = held-length (s .count) (s .ranges) i; end = s .end }
+stored-view s = λ i. record { limit = s .limit; ranges = placed-held (s .count) (s .ranges) i; count = held-length (s .count) (s .ranges) i; end = s .end; accepted = s .accepted }
 
 -- ranges put into an array are those that it then holds
 held-placed : (array rs : List TpRange) → length rs ≤ length array → held (length rs) (placed array rs) ≡ rs
@@ -73,20 +73,20 @@ held-placed array rs h =
     ∙ take-append-seam rs (drop (length rs) array)
 
 pub view-stored : (s : TpStream) (p : State) → length (p .ranges) ≤ length (s .ranges) → view (stored s p) ≡ p
-view-stored s p h = λ i. record { limit = p .limit; ranges = held-placed (s .ranges) (p .ranges) h i; end = p .end }
+view-stored s p h = λ i. record { limit = p .limit; ranges = held-placed (s .ranges) (p .ranges) h i; end = p .end; count = p .count }
 
 -- ---- beginning and clearing
 keeps-places : (rs : List TpRange) → rs ≡ placed rs []
 unfolding placed
 keeps-places rs = sym (take-length rs)
 
-pub cleared : (s : TpStream) → record { limit = s .limit; ranges = s .ranges; count = 0; end = Unknown } ≡ stored s (clear (view s))
+pub cleared : (s : TpStream) → record { limit = s .limit; ranges = s .ranges; count = 0; end = Unknown; accepted = 0 } ≡ stored s (clear (view s))
 unfolding clear
-cleared s = λ i. record { limit = s .limit; ranges = keeps-places (s .ranges) i; count = 0; end = Unknown }
+cleared s = λ i. record { limit = s .limit; ranges = keeps-places (s .ranges) i; count = 0; end = Unknown; accepted = 0 }
 
-pub fresh-stored : (limit : ℕ) → record { limit = limit; ranges = replicate most none; count = 0; end = Unknown } ≡ stored blank (fresh limit)
+pub fresh-stored : (limit : ℕ) → record { limit = limit; ranges = replicate most none; count = 0; end = Unknown; accepted = 0 } ≡ stored blank (fresh limit)
 unfolding blank clear
-fresh-stored limit = cleared (record { limit = limit; ranges = replicate most none; count = 0; end = Unknown })
+fresh-stored limit = cleared (record { limit = limit; ranges = replicate most none; count = 0; end = Unknown; accepted = 0 })
 
 module _ (limit : ℕ) where
   pub begun-not : highest < limit → refused (limit-too-large limit) ≡ begun limit

@@ -76,7 +76,7 @@ not-complete-bad p m = rw m
 pub first-end : (s : TpStream) → 0 < length (s .ranges) → (is-known (s .end) && whole (held (s .count) (s .ranges))) ≡ true → getD (s .ranges) 0 none .end ≡ end-held (held (s .count) (s .ranges))
 first-end s l w =
     let one = whole-means (held (s .count) (s .ranges)) (and-inv (is-known (s .end)) _ w .1) in
-    let n : s .count ≡ 1 = sym (held-length (s .count) (s .ranges)) ∙ ap length (one .1) in
+    let n : s .count ≡ 1 = sym (held-length (s .count) (s .ranges)) ∙ ap length (one .2) in
     rw (n, held-take 1 (s .ranges) l, front (s .ranges) l)
 
 -- ---- what taking leaves

@@ -12,9 +12,9 @@ use Rattle.tp_stream.specs.declared.TpStream.{TpStream}
 use Rattle.tp_stream.specs.Stream.{view, stored, blank}
 
 pub record RecordHolds : Type 0 where
-  -- its limit, its first `count` places and its end are the state's
-  pub by-name : (limit n : ℕ) (array : List TpRange) (end : TpEnd) → n ≤ length array
-      → view (record { limit = limit; ranges = array; count = n; end = end }) ≡ record { limit = limit; ranges = take n array; end = end }
+  -- its limit, its first `count` places, its end and how many segments were accepted are the state's
+  pub by-name : (limit n : ℕ) (array : List TpRange) (end : TpEnd) (accepted : ℕ) → n ≤ length array
+      → view (record { limit = limit; ranges = array; count = n; end = end; accepted = accepted }) ≡ record { limit = limit; ranges = take n array; end = end; count = accepted }
   -- more ranges counted than may be held: 38
   pub too-many : (s : TpStream) → most < s .count → bad-state (view s) ≡ true
   -- a state that is put into it is found; the places behind the ranges are as they were

@@ -13,12 +13,12 @@ unfoldable pub held : ℕ → List TpRange → List TpRange
 held n array = take n array ++ replicate (n - length array) none
 
 abbrev pub view : TpStream → State
-view s = record { limit = s .limit; ranges = held (s .count) (s .ranges); end = s .end }
+view s = record { limit = s .limit; ranges = held (s .count) (s .ranges); end = s .end; count = s .accepted }
 
 -- the record with that state in it; the places behind its ranges are as they were
 abbrev pub stored : TpStream → State → TpStream
-stored s p = record { limit = p .limit; ranges = placed (s .ranges) (p .ranges); count = length (p .ranges); end = p .end }
+stored s p = record { limit = p .limit; ranges = placed (s .ranges) (p .ranges); count = length (p .ranges); end = p .end; accepted = p .count }
 
 -- a record that was never used
 unfoldable pub blank : TpStream
-blank = record { limit = 0; ranges = replicate most none; count = 0; end = Unknown }
+blank = record { limit = 0; ranges = replicate most none; count = 0; end = Unknown; accepted = 0 }

@@ -2,8 +2,9 @@
 ghost use mathlib.Core.Path.{_≡_};
 ghost use mathlib.Core.Bool.{cond};
 ghost use lib.ListN.{length};
+ghost use Prim.Native.Nat.{_+_, min};
 ghost use Rattle.tp_machine.specs.declared.TpEnd.the-variants.{Known};
-ghost use Rattle.tp_machine.specs.Machine.{fresh as fresh-of, clear as clear-of};
+ghost use Rattle.tp_machine.specs.Machine.{last-number, fresh as fresh-of, clear as clear-of};
 ghost use Rattle.tp_machine.specs.Taking.{complete as complete-of, ready as ready-of, report as report-of};
 ghost use Rattle.tp_stream.specs.Stream.{view, stored, blank};
 ghost use Rattle.tp_stream.specs.Promises.{Passed, Began, Ran, Took};
@@ -27,12 +28,17 @@ pub use judging::previous_end;
 // The highest payload limit.
 pub const MAX_LIMIT: u32 = 65520;
 
-// A stream's state: the payload limit, the ranges held (the first `count` places) and the end, where it is known.
+// The last number that a segment can have.
+pub const LAST_NUMBER: u32 = 4294967295;
+
+// A stream's state: the payload limit, the ranges held (the first `count` places), the end, where it is known, and how many segments were
+// accepted since it was begun or cleared.
 pub struct TpStream {
     pub limit: u32,
     pub ranges: [TpRange; MAX_RANGES],
     pub count: usize,
     pub end: TpEnd,
+    pub accepted: u32,
 }
 
 // What a call gives back: its answer, and the state after it.
@@ -45,13 +51,18 @@ pub struct TpStep {
 fn fresh(limit: u32) -> TpStream
     ensures { λ r. ⌜ r ≡ stored blank (fresh-of limit) ⌝ }
 {
-    let none = TpRange { start: 0, end: 0 };
+    let none = TpRange {
+        start: 0,
+        end: 0,
+        number: 0,
+    };
     let ranges = [none; MAX_RANGES];
     TpStream {
         limit,
         ranges,
         count: 0,
         end: TpEnd::Unknown,
+        accepted: 0,
     }
 }
 
@@ -86,7 +97,17 @@ pub fn consume(s: TpStream, seg: &[u8], buf: &mut [u8]) -> TpStep
     accept(s, seg, buf, header)
 }
 
-// Answer 35, or a segment that passed all other tests is joined and written.
+// The number that the next accepted segment has. Where none is left it is the last one; that segment is refused.
+fn next_number(accepted: u32) -> u32
+    ensures { λ r. ⌜ r ≡ min (accepted + 1) last-number ⌝ }
+{
+    if accepted < LAST_NUMBER {
+        return accepted + 1;
+    }
+    LAST_NUMBER
+}
+
+// Answers 35 and 39, or a segment that passed all other tests is joined and written.
 fn accept(s: TpStream, seg: &[u8], buf: &mut [u8], header: TpHeader) -> TpStep
     requires { ⌜ Passed (view s) (now seg) (length (now buf)) header ⌝ }
     ensures { λ r. ⌜ Ran s (now (seg .entry)) (now (buf .entry)) r (now (buf .exit)) ⌝ }
@@ -94,12 +115,19 @@ fn accept(s: TpStream, seg: &[u8], buf: &mut [u8], header: TpHeader) -> TpStep
     let new = TpRange {
         start: header.offset,
         end: header.offset + header.size as u32,
+        number: next_number(s.accepted),
     };
     let held = s.ranges;
     let joined = tp_range::join(held, s.count, new);
     if joined.full {
         return TpStep {
             answer: Verdict::Refused(Refusal::RangesFull),
+            stream: s,
+        };
+    }
+    if s.accepted == LAST_NUMBER {
+        return TpStep {
+            answer: Verdict::Refused(Refusal::CountFull),
             stream: s,
         };
     }
@@ -114,6 +142,7 @@ fn accept(s: TpStream, seg: &[u8], buf: &mut [u8], header: TpHeader) -> TpStep
             ranges,
             count: joined.count,
             end,
+            accepted: new.number,
         },
     }
 }
@@ -161,7 +190,7 @@ pub fn report(s: TpStream, buf: &[u8]) -> &[u8]
     &buf[..n]
 }
 
-// The stream without its ranges and its end.
+// The stream without its ranges, its end and its count.
 pub fn clear(s: TpStream) -> TpStream
     ensures { λ r. ⌜ r ≡ stored s (clear-of (view s)) ⌝ }
 {
@@ -171,5 +200,6 @@ pub fn clear(s: TpStream) -> TpStream
         ranges,
         count: 0,
         end: TpEnd::Unknown,
+        accepted: 0,
     }
 }

@@ -4,7 +4,7 @@ ghost use mathlib.Core.Bool.{false};
 ghost use Prim.Native.Nat.{_≤_};
 ghost use lib.ListN.{take};
 ghost use Rattle.tp_machine.specs.Ranges.{any};
-ghost use Rattle.tp_machine.specs.Machine.{most, State, bad-range, end-past, bad-state};
+ghost use Rattle.tp_machine.specs.Machine.{most, State, never-given, bad-range, end-past, bad-state};
 ghost use Rattle.tp_stream.specs.Stream.{view};
 ghost use Rattle.tp_stream.specs.Promises.{Reach};
 use crate::TpStream;
@@ -33,26 +33,36 @@ fn reach(limit: u32, end: TpEnd) -> u32
     }
 }
 
-// Whether a range is bad in a state whose ranges may reach to `top`.
-fn bad_range(top: u32, r: TpRange) -> bool
-    ensures { λ b. ⌜ ((p : State) → Reach p top → b ≡ bad-range p r) ⌝ }
+// Whether no accepted segment has had that number.
+fn never_given(accepted: u32, number: u32) -> bool
+    ensures { λ b. ⌜ b ≡ never-given accepted number ⌝ }
+{
+    number == 0 || accepted < number
+}
+
+// Whether a range is bad in a state whose ranges may reach to `top`, after so many accepted segments.
+fn bad_range(top: u32, accepted: u32, r: TpRange) -> bool
+    ensures { λ b. ⌜ ((p : State) → Reach p top → p .count ≡ accepted → b ≡ bad-range p r) ⌝ }
 {
     if r.end < r.start {
         return true;
     }
-    top < r.end
+    if top < r.end {
+        return true;
+    }
+    never_given(accepted, r.number)
 }
 
 // Whether one of the ranges is bad.
-fn any_bad(top: u32, ranges: [TpRange; MAX_RANGES], count: usize) -> bool
+fn any_bad(top: u32, accepted: u32, ranges: [TpRange; MAX_RANGES], count: usize) -> bool
     requires { ⌜ count ≤ most ⌝ }
-    ensures { λ b. ⌜ ((p : State) → Reach p top → b ≡ any (bad-range p) (take count ranges)) ⌝ }
+    ensures { λ b. ⌜ ((p : State) → Reach p top → p .count ≡ accepted → b ≡ any (bad-range p) (take count ranges)) ⌝ }
 {
     let mut i: usize = 0;
     while i < count {
         let r = ranges[i];
         i += 1;
-        if bad_range(top, r) {
+        if bad_range(top, accepted, r) {
             return true;
         }
     }
@@ -75,7 +85,7 @@ pub(crate) fn malformed(s: TpStream) -> bool
     }
     let top = reach(s.limit, end);
     let ranges = s.ranges;
-    if any_bad(top, ranges, s.count) {
+    if any_bad(top, s.accepted, ranges, s.count) {
         return true;
     }
     tp_range::some_touch(ranges, s.count)

@@ -25,39 +25,57 @@ use Rattle.tp_stream.specs.declared.TpStream.{TpStream}
 use Rattle.tp_stream.specs.Stream.{view, stored, blank, held}
 use Rattle.tp_stream.proofs.StreamLaws.{view-stored}
 use Rattle.tp_stream.proofs.MalformedLaws.{more-than-most}
-use Rattle.tp_words.specs.Words.{size, pair-at, pairs, end-of, unfit, outside, held-in, stream-of, state-of, flat, known, words-of, put}
+use Rattle.tp_words.specs.Words.{size, range-at, ranges-in, end-of, unfit, outside, held-in, stream-of, state-of, flat, known, words-of, put}
 use Rattle.tp_words.specs.Holding.{Tellable, Unfit, Refuses, WordsHold}
-use Rattle.tp_words.proofs.WordLaws.{pairs-length, flat-length}
+use Rattle.tp_words.proofs.WordLaws.{in-length, flat-length}
 use Rattle.tp_words.proofs.PutLaws.{too-few, enough, not-told, told, put-few, put-many, put-all}
 
 -- ---- the stream that is read is the one that was put
 
--- a range's two numbers, and the words behind the ranges
-flat-at : (rs : List TpRange) (t : List ℕ) (i : ℕ) → i < length rs → (getD (flat rs ++ t) (2 * i) 0 ≡ getD rs i none .start) × (getD (flat rs ++ t) (2 * i + 1) 0 ≡ getD rs i none .end)
+-- a range's three numbers, whatever stands behind the ranges
+record Told (ws : List ℕ) (i : ℕ) (r : TpRange) : Type 0 where
+  start : getD ws (3 * i) 0 ≡ r .start
+  end : getD ws (3 * i + 1) 0 ≡ r .end
+  number : getD ws (3 * i + 2) 0 ≡ r .number
+
+flat-at : (rs : List TpRange) (t : List ℕ) (i : ℕ) → i < length rs → Told (flat rs ++ t) i (getD rs i none)
 unfolding flat
 flat-at [] t i h = absurd (omega arith)
-flat-at (r ∷ rs) t zero h = (refl, refl)
+flat-at (r ∷ rs) t zero h = record { start = refl; end = refl; number = refl }
 flat-at (r ∷ rs) t (suc i) h =
     let one = flat-at rs t i (omega arith) in
-    let a : 2 * suc i ≡ suc (suc (2 * i)) = omega arith in
-    let b : 2 * suc i + 1 ≡ suc (suc (2 * i + 1)) = omega arith in
-    (ap (λ (n : ℕ). getD (flat (r ∷ rs) ++ t) n 0) a ∙ one .0, ap (λ (n : ℕ). getD (flat (r ∷ rs) ++ t) n 0) b ∙ one .1)
+    let a : 3 * suc i ≡ suc (suc (suc (3 * i))) = omega arith in
+    let b : 3 * suc i + 1 ≡ suc (suc (suc (3 * i + 1))) = omega arith in
+    let c : 3 * suc i + 2 ≡ suc (suc (suc (3 * i + 2))) = omega arith in
+    record {
+      start = ap (λ (n : ℕ). getD (flat (r ∷ rs) ++ t) n 0) a ∙ one .start;
+      end = ap (λ (n : ℕ). getD (flat (r ∷ rs) ++ t) n 0) b ∙ one .end;
+      number = ap (λ (n : ℕ). getD (flat (r ∷ rs) ++ t) n 0) c ∙ one .number;
+    }
 
-module _ (l c k e : ℕ) (rs : List TpRange) (t : List ℕ) where
+module _ (l c k e m : ℕ) (rs : List TpRange) (t : List ℕ) where
   abbrev all : List ℕ
-  all = l ∷ c ∷ k ∷ e ∷ (flat rs ++ t)
+  all = l ∷ c ∷ k ∷ e ∷ m ∷ (flat rs ++ t)
 
-  pair-is : (i : ℕ) → i < length rs → pair-at all i ≡ getD rs i none
-  pair-is i h =
+  -- a word behind the first five
+  behind-five : (i n : ℕ) → n ≡ 5 + i → getD all n 0 ≡ getD (flat rs ++ t) i 0
+  behind-five i n q =
+      let five : n ≡ suc (suc (suc (suc (suc i)))) = omega arith in
+      ap (λ (x : ℕ). getD all x 0) five
+
+  range-is : (i : ℕ) → i < length rs → range-at all i ≡ getD rs i none
+  range-is i h =
       let one = flat-at rs t i h in
-      let a : 4 + 2 * i ≡ suc (suc (suc (suc (2 * i)))) = omega arith in
-      let b : 5 + 2 * i ≡ suc (suc (suc (suc (2 * i + 1)))) = omega arith in
-      λ j. record { start = (ap (λ (n : ℕ). getD all n 0) a ∙ one .0) j; end = (ap (λ (n : ℕ). getD all n 0) b ∙ one .1) j }
+      λ j. record {
+        start = (behind-five (3 * i) (5 + 3 * i) refl ∙ one .start) j;
+        end = (behind-five (3 * i + 1) (5 + 3 * i + 1) (omega arith) ∙ one .end) j;
+        number = (behind-five (3 * i + 2) (5 + 3 * i + 2) (omega arith) ∙ one .number) j;
+      }
 
-  pairs-are : (n : ℕ) → n ≤ length rs → pairs all n ≡ take n rs
-  unfolding pairs
-  pairs-are zero h = refl
-  pairs-are (suc n) h = (λ j. pairs-are n (omega arith) j ++ (pair-is n h j ∷ [])) ∙ sym (take-suc rs n none h)
+  ranges-are : (n : ℕ) → n ≤ length rs → ranges-in all n ≡ take n rs
+  unfolding ranges-in
+  ranges-are zero h = refl
+  ranges-are (suc n) h = (λ j. ranges-are n (omega arith) j ++ (range-is n h j ∷ [])) ∙ sym (take-suc rs n none h)
 
 end-back : (e : TpEnd) → end-of (known e) (previous e) ≡ e
 end-back Unknown = refl
@@ -79,11 +97,11 @@ module _ (ws : List ℕ) (s : TpStream) (places : length (s .ranges) ≡ most) w
     held-back : held-in after ≡ s
     unfolding held-in words-of
     held-back =
-        let rs : pairs after most ≡ s .ranges =
-        ap (pairs after) (sym places)
-        ∙ pairs-are _ _ _ _ (s .ranges) (drop size ws) (length (s .ranges)) (omega arith)
+        let rs : ranges-in after most ≡ s .ranges =
+        ap (ranges-in after) (sym places)
+        ∙ ranges-are _ _ _ _ _ (s .ranges) (drop size ws) (length (s .ranges)) (omega arith)
         ∙ take-length (s .ranges) in
-        λ i. record { limit = s .limit; ranges = rs i; count = s .count; end = end-back (s .end) i }
+        λ i. record { limit = s .limit; ranges = rs i; count = s .count; end = end-back (s .end) i; accepted = s .accepted }
 
     fits : unfit after ≡ false
     unfolding words-of
@@ -121,7 +139,7 @@ read-places ws = go (unfit ws)
   where
     go : (b : Bool) → length (cond b outside (held-in ws) .ranges) ≡ most
     go true = refl
-    go false = pairs-length ws most
+    go false = in-length ws most
 
 -- ---- unfit words
 unfit-means : (ws : List ℕ) → (unfit ws ≡ true) ↔ Unfit ws

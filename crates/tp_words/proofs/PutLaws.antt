@@ -15,17 +15,17 @@ use Rattle.tp_machine.proofs.Lists.{or-inv}
 use Rattle.tp_stream.specs.declared.TpStream.{TpStream}
 use Rattle.tp_stream.specs.Stream.{blank}
 use Rattle.tp_range.specs.Joining.{none}
-use Rattle.tp_words.specs.Words.{size, pairs, end-of, unfit, held-in, stream-of, outside, known, flat, words-of, put}
+use Rattle.tp_words.specs.Words.{size, ranges-in, end-of, unfit, held-in, stream-of, outside, known, flat, words-of, put}
 
-pub outside-made : record { limit = 0; ranges = replicate most none; count = 0; end = Known 1 } ≡ outside
+pub outside-made : record { limit = 0; ranges = replicate most none; count = 0; end = Known 1; accepted = 0 } ≡ outside
 unfolding blank
 outside-made = refl
 
 -- the state that words hold, from its parts
-pub held : (ws : List ℕ) (rs : List TpRange) (e : TpEnd) → rs ≡ pairs ws most → e ≡ end-of (getD ws 2 0) (getD ws 3 0)
-    → record { limit = getD ws 0 0; ranges = rs; count = getD ws 1 0; end = e } ≡ held-in ws
+pub held : (ws : List ℕ) (rs : List TpRange) (e : TpEnd) → rs ≡ ranges-in ws most → e ≡ end-of (getD ws 2 0) (getD ws 3 0)
+    → record { limit = getD ws 0 0; ranges = rs; count = getD ws 1 0; end = e; accepted = getD ws 4 0 } ≡ held-in ws
 unfolding held-in
-held ws rs e p q = λ i. record { limit = getD ws 0 0; ranges = p i; count = getD ws 1 0; end = q i }
+held ws rs e p q = λ i. record { limit = getD ws 0 0; ranges = p i; count = getD ws 1 0; end = q i; accepted = getD ws 4 0 }
 
 -- ---- which words are unfit
 
@@ -67,14 +67,14 @@ module _ (ws : List ℕ) (s : TpStream) where
     unfolding put
     put-all = rw (le-ltb (length ws) size h, le-ltb most (s .count) m)
 
-    -- the first four words, and then the ranges
-    pub put-both : (a b k e : ℕ) (front all : List ℕ) → a ∷ b ∷ known (s .end) ∷ previous (s .end) ∷ flat (s .ranges) ≡ words-of s → k ≡ known (s .end) → e ≡ previous (s .end)
-        → front ≡ a ∷ b ∷ k ∷ e ∷ drop 4 ws
-        → all ≡ take 4 front ++ (flat (s .ranges) ++ drop size front)
+    -- the first five words, and then the ranges
+    pub put-both : (a b k e n : ℕ) (front all : List ℕ) → a ∷ b ∷ known (s .end) ∷ previous (s .end) ∷ n ∷ flat (s .ranges) ≡ words-of s → k ≡ known (s .end) → e ≡ previous (s .end)
+        → front ≡ a ∷ b ∷ k ∷ e ∷ n ∷ drop 5 ws
+        → all ≡ take 5 front ++ (flat (s .ranges) ++ drop size front)
         → all ≡ put ws s
-    put-both a b k e front all w p q f g =
+    put-both a b k e n front all w p q f g =
         g
-        ∙ ap (λ (l : List ℕ). take 4 l ++ (flat (s .ranges) ++ drop size l)) (f ∙ ap₂ {C = List ℕ} (λ (x y : ℕ). a ∷ b ∷ x ∷ y ∷ drop 4 ws) p q)
-        ∙ ap (λ (l : List ℕ). a ∷ b ∷ known (s .end) ∷ previous (s .end) ∷ (flat (s .ranges) ++ l)) (drop-drop (2 * most) 4 ws)
+        ∙ ap (λ (l : List ℕ). take 5 l ++ (flat (s .ranges) ++ drop size l)) (f ∙ ap₂ {C = List ℕ} (λ (x y : ℕ). a ∷ b ∷ x ∷ y ∷ n ∷ drop 5 ws) p q)
+        ∙ ap (λ (l : List ℕ). a ∷ b ∷ known (s .end) ∷ previous (s .end) ∷ n ∷ (flat (s .ranges) ++ l)) (drop-drop (3 * most) 5 ws)
         ∙ ap (λ (l : List ℕ). l ++ drop size ws) w
         ∙ put-all

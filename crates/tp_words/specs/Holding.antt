@@ -30,7 +30,7 @@ pub record Refuses (p : State) : Type 0 where
   pub incomplete : complete p ≡ false
 
 pub record WordsHold : Type 0 where
-  -- the stream that is read is the one that was put: limit, every place of its array, count and end
+  -- the stream that is read is the one that was put: limit, every place of its array, count, end and how many segments were accepted
   pub read-back : (ws : List ℕ) (s : TpStream) → size ≤ length ws → Tellable s → stream-of (put ws s) ≡ s
   -- so the next call finds the state that was put
   pub state-back : (ws : List ℕ) (s : TpStream) → size ≤ length ws → Tellable s → state-of (put ws s) ≡ view s

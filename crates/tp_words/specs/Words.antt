@@ -1,5 +1,5 @@
--- A stream's state as words that the caller keeps: the limit, how many ranges are held, whether an end is known (0 or 1), the end, and as many
--- pairs of start and end as ranges can be held. Assumes nothing: these are definitions.
+-- A stream's state as words that the caller keeps: the limit, how many ranges are held, whether an end is known (0 or 1), the end, how many
+-- segments were accepted, and for each range that can be held its start, its end and its number. Assumes nothing: these are definitions.
 use Prim.Native.Nat.{ℕ, zero, suc, _+_, _*_}
 use mathlib.Core.Bool.{Bool, _||_, cond}
 use mathlib.Core.List.{List, [], _∷_, _++_}
@@ -14,18 +14,18 @@ use Rattle.tp_stream.specs.Stream.{view, blank}
 
 -- as many words as a state has
 abbrev pub size : ℕ
-size = 4 + 2 * most
+size = 5 + 3 * most
 
 -- ---- the state that some words hold
 
--- the pair of number i, behind the first four words
-abbrev pub pair-at : List ℕ → ℕ → TpRange
-pair-at ws i = record { start = getD ws (4 + 2 * i) 0; end = getD ws (5 + 2 * i) 0 }
+-- the range at place i, behind the first five words
+abbrev pub range-at : List ℕ → ℕ → TpRange
+range-at ws i = record { start = getD ws (5 + 3 * i) 0; end = getD ws (5 + 3 * i + 1) 0; number = getD ws (5 + 3 * i + 2) 0 }
 
--- the first n pairs
-unfoldable pub pairs : List ℕ → ℕ → List TpRange
-pairs ws zero = []
-pairs ws (suc n) = pairs ws n ++ (pair-at ws n ∷ [])
+-- those at the first n places
+unfoldable pub ranges-in : List ℕ → ℕ → List TpRange
+ranges-in ws zero = []
+ranges-in ws (suc n) = ranges-in ws n ++ (range-at ws n ∷ [])
 
 abbrev pub end-of : (known end : ℕ) → TpEnd
 end-of known end = cond (eqb known 0) Unknown (Known end)
@@ -36,15 +36,16 @@ unfit ws = ltb (length ws) size || ltb 1 (getD ws 2 0)
 
 -- a state that is malformed: it holds nothing, and its end is past its limit
 abbrev pub outside : TpStream
-outside = record { limit = 0; ranges = blank .ranges; count = 0; end = Known 1 }
+outside = record { limit = 0; ranges = blank .ranges; count = 0; end = Known 1; accepted = 0 }
 
 unfoldable pub held-in : List ℕ → TpStream
 held-in ws =
     record {
       limit = getD ws 0 0;
-      ranges = pairs ws most;
+      ranges = ranges-in ws most;
       count = getD ws 1 0;
       end = end-of (getD ws 2 0) (getD ws 3 0);
+      accepted = getD ws 4 0;
     }
 
 -- words that are unfit hold a malformed state
@@ -59,14 +60,14 @@ state-of ws = view (stream-of ws)
 
 unfoldable pub flat : List TpRange → List ℕ
 flat [] = []
-flat (r ∷ rs) = r .start ∷ r .end ∷ flat rs
+flat (r ∷ rs) = r .start ∷ r .end ∷ r .number ∷ flat rs
 
 abbrev pub known : TpEnd → ℕ
 known Unknown = 0
 known (Known e) = 1
 
 unfoldable pub words-of : TpStream → List ℕ
-words-of s = s .limit ∷ s .count ∷ known (s .end) ∷ previous (s .end) ∷ flat (s .ranges)
+words-of s = s .limit ∷ s .count ∷ known (s .end) ∷ previous (s .end) ∷ s .accepted ∷ flat (s .ranges)
 
 -- too few words, or a stream that counts more ranges than may be held (no accepted call comes to one)
 abbrev pub misfit : List ℕ → TpStream → Bool

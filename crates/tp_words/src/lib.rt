@@ -1,5 +1,5 @@
-// A stream's state as words that the caller keeps: the limit, how many ranges are held, whether an end is known (0 or 1), the end, and then as
-// many pairs of start and end as ranges can be held.
+// A stream's state as words that the caller keeps: the limit, how many ranges are held, whether an end is known (0 or 1), the end, how many
+// segments were accepted, and then for each range that can be held its start, its end and its number.
 use tp_machine::TpEnd;
 use tp_machine::TpRange;
 use tp_range::MAX_RANGES;
@@ -10,8 +10,12 @@ ghost use mathlib.Core.List.{_∷_, _++_};
 ghost use lib.ListN.{length, take, drop};
 ghost use Rattle.tp_words.specs.Words.{size, end-of, unfit as unfit-of, outside as outside-of, held-in, stream-of, known, flat, put as put-of};
 
-// As many words as a state has.
-pub const WORDS: usize = 4 + 2 * MAX_RANGES;
+// The words before the ranges, those of one range, and as many as a state has.
+pub const FRONT_WORDS: usize = 5;
+
+pub const RANGE_WORDS: usize = 3;
+
+pub const WORDS: usize = FRONT_WORDS + RANGE_WORDS * MAX_RANGES;
 
 // The end that two words tell.
 fn end_of(known: u32, end: u32) -> TpEnd
@@ -37,13 +41,18 @@ fn known_of(end: TpEnd) -> u32
 fn outside() -> TpStream
     ensures { λ r. ⌜ r ≡ outside-of ⌝ }
 {
-    let none = TpRange { start: 0, end: 0 };
+    let none = TpRange {
+        start: 0,
+        end: 0,
+        number: 0,
+    };
     let ranges = [none; MAX_RANGES];
     TpStream {
         limit: 0,
         ranges,
         count: 0,
         end: TpEnd::Known(1),
+        accepted: 0,
     }
 }
 
@@ -52,13 +61,19 @@ fn held_in(words: &[u32]) -> TpStream
     requires { ⌜ size ≤ length (now words) ⌝ }
     ensures { λ r. ⌜ r ≡ held-in (now (words .entry)) ⌝ }
 {
-    let none = TpRange { start: 0, end: 0 };
+    let none = TpRange {
+        start: 0,
+        end: 0,
+        number: 0,
+    };
     let mut ranges = [none; MAX_RANGES];
     let mut i: usize = 0;
     while i < MAX_RANGES {
+        let at = FRONT_WORDS + RANGE_WORDS * i;
         ranges[i] = TpRange {
-            start: words[4 + 2 * i],
-            end: words[5 + 2 * i],
+            start: words[at],
+            end: words[at + 1],
+            number: words[at + 2],
         };
         i += 1;
     }
@@ -67,6 +82,7 @@ fn held_in(words: &[u32]) -> TpStream
         ranges,
         count: words[1] as usize,
         end: end_of(words[2], words[3]),
+        accepted: words[4],
     }
 }
 
@@ -90,29 +106,32 @@ pub fn stream_of(words: &[u32]) -> TpStream
     held_in(words)
 }
 
-// The ranges into the words behind the first four.
+// The ranges into the words behind the first five.
 fn put_ranges(words: &mut [u32], ranges: [TpRange; MAX_RANGES])
     requires { ⌜ size ≤ length (now words) ⌝ }
-    ensures { λ _. ⌜ now (words .exit) ≡ take 4 (now (words .entry)) ++ (flat ranges ++ drop size (now (words .entry))) ⌝ }
+    ensures { λ _. ⌜ now (words .exit) ≡ take 5 (now (words .entry)) ++ (flat ranges ++ drop size (now (words .entry))) ⌝ }
 {
     let mut i: usize = 0;
     while i < MAX_RANGES {
         let r = ranges[i];
-        words[4 + 2 * i] = r.start;
-        words[5 + 2 * i] = r.end;
+        let at = FRONT_WORDS + RANGE_WORDS * i;
+        words[at] = r.start;
+        words[at + 1] = r.end;
+        words[at + 2] = r.number;
         i += 1;
     }
 }
 
-// Four numbers into the first four words.
-fn put_front(words: &mut [u32], a: u32, b: u32, c: u32, d: u32)
-    requires { ⌜ 4 ≤ length (now words) ⌝ }
-    ensures { λ _. ⌜ now (words .exit) ≡ a ∷ b ∷ c ∷ d ∷ drop 4 (now (words .entry)) ⌝ }
+// Five numbers into the first five words.
+fn put_front(words: &mut [u32], a: u32, b: u32, c: u32, d: u32, e: u32)
+    requires { ⌜ 5 ≤ length (now words) ⌝ }
+    ensures { λ _. ⌜ now (words .exit) ≡ a ∷ b ∷ c ∷ d ∷ e ∷ drop 5 (now (words .entry)) ⌝ }
 {
     words[0] = a;
     words[1] = b;
     words[2] = c;
     words[3] = d;
+    words[4] = e;
 }
 
 // A stream into the words that were lent. They are left alone where they are too few, or the stream counts more ranges than may be held (no
@@ -133,6 +152,7 @@ pub fn put(words: &mut [u32], stream: TpStream)
         stream.count as u32,
         known_of(end),
         tp_stream::previous_end(end),
+        stream.accepted,
     );
     let ranges = stream.ranges;
     put_ranges(words, ranges);

@@ -235,7 +235,7 @@ fn segment_words(refusal: Refusal, values: [u64; PLACES]) {
     }
 }
 
-// A stream of segments: 34 to 38.
+// A stream of segments: 34 to 39.
 fn stream_words(refusal: Refusal, values: [u64; PLACES]) {
     match refusal {
         Refusal::BufferTooShort(_) => told(
@@ -252,6 +252,9 @@ fn stream_words(refusal: Refusal, values: [u64; PLACES]) {
         Refusal::NotComplete => text(b"the report is not complete"),
         Refusal::MalformedState => text(
             b"these words are no state of a stream: they come from elsewhere, or were changed; begin the stream anew",
+        ),
+        Refusal::CountFull => text(
+            b"4294967295 segments were taken since the stream was begun or cleared, and no number is left: clear it",
         ),
         _ => {}
     }
@@ -318,7 +321,8 @@ fn words(refusal: Refusal, values: [u64; PLACES]) {
         | Refusal::RangesFull
         | Refusal::LimitTooLarge(_)
         | Refusal::NotComplete
-        | Refusal::MalformedState => stream_words(refusal, values),
+        | Refusal::MalformedState
+        | Refusal::CountFull => stream_words(refusal, values),
     }
 }
 

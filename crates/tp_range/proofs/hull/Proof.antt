@@ -10,9 +10,12 @@ least-requires c κs = tt
 greatest-requires : tie.Need-greatest-requires
 greatest-requires c κs = tt
 
+greatest-requires-2 : tie.Need-greatest-requires-2
+greatest-requires-2 c κs = tt
+
 returns : tie.Need-returns
 unfolding hull-of
-returns c = range-eq _ _ (c .before .least .ensures) (c .greatest .ensures)
+returns c = range-eq _ _ (c .before .before .least .ensures) (c .before .greatest .ensures) (c .greatest2 .ensures)
 
 pub hull-spec : {M : Type 1} → statement M
-hull-spec = tie.close (tie.spec least-requires greatest-requires returns)
+hull-spec = tie.close (tie.spec least-requires greatest-requires greatest-requires-2 returns)

@@ -1,4 +1,4 @@
--- `tp_words::held_in` meets its contract. In the loop the first i pairs stand in the array. Assumes nothing.
+-- `tp_words::held_in` meets its contract. In the loop the first i ranges stand in the array. Assumes nothing.
 use Prim.Native.Nat.{_-_, _≤_}
 use mathlib.Core.Path.{_≡_, refl, ap, _∙_}
 use native.Mathlib.Omega.{arith}
@@ -6,7 +6,7 @@ use borrow.Author.Needs.{needs}
 use lib.ListN.{replicate, length}
 use Rattle.tp_machine.specs.Machine.{most}
 use Rattle.tp_range.specs.Joining.{none}
-use Rattle.tp_words.specs.Words.{pairs}
+use Rattle.tp_words.specs.Words.{ranges-in}
 use Rattle.tp_words.proofs.PutLaws.{held}
 use Rattle.tp_words.proofs.WordLaws.{read-in, read-starts, read-more, read-ends}
 use Rattle.tp_words.proofs.held_in.Statement.{statement}
@@ -23,21 +23,22 @@ loop-holds c = (omega arith, search needs, read-starts _ _)
 
 loop-again : tie.Need-loop-again Inv-loop μ-loop
 loop-again c =
-    let at-loop = c .before .before .before in
+    let at-loop = c .before .before .before .before in
     let words = at-loop .before .before .args .words .now in
     (omega arith, refl, read-more words (replicate most none) (at-loop .loop .ranges) (at-loop .loop .i) (omega arith) (at-loop .loop .inv .2))
 
-cast-t25 : tie.Need-cast-t25 Inv-loop μ-loop
-cast-t25 c = omega (arith, c .shared-slice-known5 .given 1)
+cast-t27 : tie.Need-cast-t27 Inv-loop μ-loop
+cast-t27 c = omega (arith, c .shared-slice-known6 .given 1)
 
 returns : tie.Need-returns Inv-loop μ-loop
 returns c =
-    let at-loop = c .before .before .before .before .before .before in
+    let at-end = c .before in
+    let at-loop = at-end .before .before .before .before .before .before in
     let words = at-loop .before .before .args .words .now in
     let done : at-loop .loop .i ≡ most = omega arith in
-    let all : at-loop .loop .ranges ≡ pairs words most =
+    let all : at-loop .loop .ranges ≡ ranges-in words most =
     read-ends words (replicate most none) (at-loop .loop .ranges) most refl (at-loop .loop .inv .2 ∙ ap (read-in words (replicate most none)) done) in
-    held words (at-loop .loop .ranges) (c .end-of .result) all (c .end-of .ensures)
+    held words (at-loop .loop .ranges) (at-end .end-of .result) all (at-end .end-of .ensures)
 
 pub held-in-spec : {M : Type 1} → statement M
 held-in-spec =
@@ -58,11 +59,14 @@ held-in-spec =
     (λ c. omega arith)
     (λ c. omega arith)
     (λ c. omega arith)
+    (λ c. omega arith)
+    (λ c. omega arith)
     loop-again
     (λ c. omega arith)
     (λ c. omega arith)
-    cast-t25
+    cast-t27
     (λ c. omega arith)
     (λ c. omega arith)
     (λ c κs. omega arith)
+    (λ c. omega arith)
     returns)

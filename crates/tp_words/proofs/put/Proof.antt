@@ -21,7 +21,7 @@ returns-3 c =
     let at-second = at-previous .before .before .before .before in
     let at-first = at-second .before .before in
     let a = at-first .before .before .args in
-    put-both (a .words .now) (a .stream) (at-first .if1 .left) (at-second .if2 .left) _ _ _ _ _ _ refl (at-previous .before .known-of .ensures) (at-previous .previous-end .ensures) (at-front .put-front .ensures) (at-ranges .put-ranges .ensures)
+    put-both (a .words .now) (a .stream) (at-first .if1 .left) (at-second .if2 .left) _ _ _ _ _ _ _ refl (at-previous .before .known-of .ensures) (at-previous .previous-end .ensures) (at-front .put-front .ensures) (at-ranges .put-ranges .ensures)
 
 pub put-spec : {M : Type 1} → statement M
 put-spec =

@@ -34,12 +34,15 @@ slice-write-words c = omega (arith, long (c .before .before))
 slice-write-words-2 : tie.Need-slice-write-words-2 Inv-loop μ-loop
 slice-write-words-2 c = simp length-set (omega (arith, long (c .before .before)))
 
+slice-write-words-3 : tie.Need-slice-write-words-3 Inv-loop μ-loop
+slice-write-words-3 c = simp length-set (omega (arith, long (c .before .before)))
+
 loop-again : tie.Need-loop-again Inv-loop μ-loop
 unfolding flat
 loop-again c =
     let at-loop = c .before .before in
     let a = at-loop .before .args in
-    (omega arith, laid-more (a .words .now) (a .t2) (omega (arith, at-loop .before .pre, many (at-loop .before))) (at-loop .loop .i) _ _ (omega (arith, many (at-loop .before))) refl (at-loop .loop .words) (at-loop .loop .inv .1))
+    (omega arith, laid-more (a .words .now) (a .t2) (omega (arith, at-loop .before .pre, many (at-loop .before))) (at-loop .loop .i) _ _ _ (omega (arith, many (at-loop .before))) refl (at-loop .loop .words) (at-loop .loop .inv .1))
 
 same-length : tie.Need-same-length Inv-loop μ-loop
 same-length c = long (c .before)
@@ -66,8 +69,10 @@ put-ranges-spec =
     slice-write-words
     (λ c. omega arith)
     (λ c. omega arith)
-    (λ c. omega arith)
     slice-write-words-2
+    (λ c. omega arith)
+    (λ c. omega arith)
+    slice-write-words-3
     (λ c. omega arith)
     (λ c. omega arith)
     loop-again

@@ -100,6 +100,9 @@ returns-31 c = arm (c .none6 .ensures) (c .before .enum-told6 .given .1)
 returns-32 : tie.Need-returns-32
 returns-32 c = arm (c .none7 .ensures) (c .before .enum-told7 .given .1)
 
+returns-33 : tie.Need-returns-33
+returns-33 c = arm (c .none8 .ensures) (c .before .enum-told8 .given .1)
+
 pub numbers-of-spec : {M : Type 1} → statement M
 numbers-of-spec =
     tie.close
@@ -190,6 +193,8 @@ numbers-of-spec =
     (λ c κs. search needs)
     (λ c. search needs)
     (λ c κs. search needs)
+    (λ c. search needs)
+    (λ c κs. search needs)
     returns
     returns-2
     returns-3
@@ -221,4 +226,5 @@ numbers-of-spec =
     returns-29
     returns-30
     returns-31
-    returns-32)
+    returns-32
+    returns-33)

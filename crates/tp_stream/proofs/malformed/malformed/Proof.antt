@@ -41,7 +41,7 @@ module _ (c : tie.Else3) where
 one-is-bad : (c : tie.After-any-bad) → c .any-bad .result ≡ any (bad-range (view (stream (c .before .before .before)))) (take (stream (c .before .before .before) .count) (stream (c .before .before .before) .ranges))
 one-is-bad c =
     let s = stream (c .before .before .before) in
-    c .any-bad .ensures (view s) (c .before .before .reach .ensures (view s) refl refl)
+    c .any-bad .ensures (view s) (c .before .before .reach .ensures (view s) refl refl) refl
 
 returns-4 : tie.Need-returns-4
 returns-4 c =
