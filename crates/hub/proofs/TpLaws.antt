@@ -3,13 +3,14 @@
 use Prim.Native.Nat.{ℕ, _+_, _≤_, _<_}
 use mathlib.Core.Path.{_≡_, refl, sym, ap, ap₂, subst, _∙_}
 use mathlib.Core.Bool.{Bool, true, false, cond, false≢true}
-use mathlib.Core.List.{List, []}
-use mathlib.Core.Logic.{_↔_, inl}
+use mathlib.Core.List.{List, [], _∷_}
+use mathlib.Core.Logic.{_↔_, _≢_, inl, ⊎-elim}
 use native.Mathlib.Omega.{arith}
 use borrow.Author.Tests.{lt-ltb, le-ltb}
 use lib.ListN.{length, take, getD}
 use Rattle.numbers.specs.Refusals.{malformed-state}
-use Rattle.numbers.specs.Answers.{given}
+use Rattle.numbers.specs.Refusals as paper-refusals
+use Rattle.numbers.specs.Answers.{given, All}
 use Rattle.numbers.specs.Answers as paper
 use Rattle.numbers.proofs.AnswerLaws.{when-hit, when-pass}
 use Rattle.refusal.specs.declared.Refusal.{Refusal}
@@ -20,8 +21,14 @@ use Rattle.refusal.specs.declared.answers.Count.the-variants as count
 use Rattle.refusal.specs.Said.{said, verdict-said, verdict-refusal, count-said}
 use Rattle.tp_machine.specs.Machine.{most, State, Out, begun, begin, step, opened, fed, clear, bad-state}
 use Rattle.tp_machine.specs.Taking.{Taken, complete, end-held, ready, finished, report, taking}
-use Rattle.tp_machine.specs.Meaning.{Complete}
-use Rattle.tp_machine.specs.Runs.{admitted, WholeEnds, Reported}
+use Rattle.tp_machine.specs.declared.TpRange.{TpRange}
+use Rattle.tp_machine.specs.Telling.{range-told}
+use Rattle.tp_machine.specs.Meaning.{range, Good, Complete}
+use Rattle.tp_machine.specs.Runs.{admitted, Numbered, WholeEnds, Reported}
+use Rattle.tp_machine.proofs.Lists.{one-has}
+use Rattle.tp_machine.proofs.Joining.{same-range}
+use Rattle.tp_machine.proofs.Telling.{range-means, count-means, range-follows}
+use Rattle.tp_machine.proofs.Runs.{every-run}
 use Rattle.tp_machine.proofs.Steps.{every-step, ready-tells, finished-length, part-length}
 use Rattle.tp_machine.proofs.Tests as tests
 use Rattle.tp_machine.proofs.Report.{every-report}
@@ -34,8 +41,8 @@ use Rattle.tp_words.specs.Words.{size, unfit, stream-of, state-of, put}
 use Rattle.tp_words.proofs.PutLaws.{fit}
 use Rattle.tp_words.proofs.Holding.{words-hold}
 use Rattle.hub.specs.declared.answers.Answer.{Answer}
-use Rattle.hub.specs.Answers.{row, refusal-row, told, no-values, one-value, report-values}
-use Rattle.hub.specs.Tp.{in-words, Begins, kept, Consumes, completes, InFront, Takes, Clears, Comes, none, next, Called, Stands, Reports, Shut, OverWords}
+use Rattle.hub.specs.Answers.{row, refusal-row, told, no-values, one-value, report-values, range-values}
+use Rattle.hub.specs.Tp.{in-words, Begins, kept, Consumes, completes, InFront, Takes, Clears, counts, ranges, Comes, none, next, Called, Stands, Reports, Shut, OverWords}
 
 -- ---- beginning
 
@@ -226,6 +233,35 @@ reports {limit} {buf} {ws′} {buf′} {b} {segs} c whole takes =
       reported = subst (Reported (admitted (opened limit buf) segs) (given .size)) (sym part) (given .reported);
     }
 
+-- ---- numbers of arrival
+counted : {limit : ℕ} {buf ws′ buf′ : List ℕ} {segs : List (List ℕ)} {r : Answer} → Called limit buf segs ws′ buf′ r → counts ws′ ≡ row 0 (one-value (length (admitted (opened limit buf) segs)))
+counted {limit} {buf} {ws′} {buf′} {segs} c =
+    let same = runs c .state in
+    let run = every-run limit buf segs in
+    ap (told one-value) (count-means (state-of ws′) (length (admitted (opened limit buf) segs)) .1 (subst Good (sym same) (run .good), ap (λ (p : State). p .count) same ∙ run .counted))
+
+-- a range that is not told has another number than 0
+not-zero : (p : State) (x : ℕ) (r : paper-refusals.Refusal) → range-told p x ≡ paper.refused r → r .number ≢ 0
+not-zero p x r e z =
+    ⊎-elim (λ w. omega (arith, ap (λ (q : paper-refusals.Refusal). q .number) (w .1), z)) (λ w. ⊎-elim (λ v. omega (arith, ap (λ (q : paper-refusals.Refusal). q .number) (v .1), z)) (λ v. absurd (v .1)) (w .1))
+    (range-follows p x .refuses r .0 e)
+
+numbered : {limit : ℕ} {buf ws′ buf′ : List ℕ} {segs : List (List ℕ)} {r : Answer} → Called limit buf segs ws′ buf′ r → (from start end number : ℕ)
+    → ranges ws′ from ≡ row 0 (start ∷ end ∷ number ∷ []) → Numbered (admitted (opened limit buf) segs) (range start end number)
+numbered {limit} {buf} {ws′} {buf′} {segs} c from start end number = go (range-told (state-of ws′) from) refl
+  where
+    -- the value at place i
+    at : ℕ → Answer → ℕ
+    at i a = getD (a .values) i 0
+
+    go : (a : paper.Answer TpRange) → range-told (state-of ws′) from ≡ a → told range-values a ≡ row 0 (start ∷ end ∷ number ∷ []) → Numbered (admitted (opened limit buf) segs) (range start end number)
+    go (paper.accepted x) told-so q =
+        let same : x ≡ range start end number = same-range x (range start end number) (ap (at 0) q) (ap (at 1) q) (ap (at 2) q) in
+        let first = range-means (state-of ws′) from x .0 told-so .1 in
+        let all : All (Numbered (admitted (opened limit buf) segs)) (state-of ws′ .ranges) = subst (λ (p : State). All (Numbered (admitted (opened limit buf) segs)) (p .ranges)) (sym (runs c .state)) (every-run limit buf segs .numbered) in
+        subst (Numbered (admitted (opened limit buf) segs)) same (one-has _ (state-of ws′ .ranges) x all (first .held))
+    go (paper.refused x) told-so q = absurd (not-zero (state-of ws′) from x told-so (ap (λ (a : Answer). a .number) q))
+
 unfit-shut : (ws : List ℕ) → unfit ws ≡ true → Shut ws
 unfit-shut ws e =
     let no = words-hold .unfit-refuses ws e in
@@ -241,7 +277,9 @@ unfit-shut ws e =
         c .words ∙ ap (λ (b : Bool). cond b ws (put ws (stored (stream-of ws) (clear (state-of ws))))) e,
       );
       incomplete = ap (λ (b : Bool). row 0 (one-value (cond b 1 0))) (no .incomplete);
+      counting = ap (told one-value) (no .count);
+      ranging = λ from. ap (told range-values) (no .ranges from);
     }
 
 pub over-words : OverWords
-over-words = record { runs = runs; complete-means = complete-means; reports = reports; unfit-shut = unfit-shut }
+over-words = record { runs = runs; complete-means = complete-means; reports = reports; counted = counted; numbered = numbered; unfit-shut = unfit-shut }

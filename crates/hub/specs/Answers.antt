@@ -8,6 +8,7 @@ use Rattle.sd_format.specs.Frames.{Frame}
 use Rattle.sd_format.specs.Frames as Frames
 use Rattle.sd_option.specs.declared.reading.OptionHead.{OptionHead}
 use Rattle.sd_index.specs.declared.lookup.Found.{Found}
+use Rattle.tp_machine.specs.declared.TpRange.{TpRange}
 use Rattle.refusal.specs.declared.values.Numbers.{Numbers}
 use Rattle.refusal.specs.Said.{places, padded}
 use Rattle.hub.specs.declared.answers.Answer.{Answer}
@@ -54,3 +55,7 @@ item-values at item = (at + 1) ∷ length item ∷ []
 -- the report is as long as the message's header and its payload, which ends there
 abbrev pub report-values : ℕ → List ℕ
 report-values end = (16 + end) ∷ []
+
+-- a range: where it begins and ends, and the number of the latest accepted segment in it
+abbrev pub range-values : TpRange → List ℕ
+range-values r = r .start ∷ r .end ∷ r .number ∷ []

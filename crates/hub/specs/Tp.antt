@@ -11,12 +11,13 @@ use Rattle.numbers.specs.Refusals.{malformed-state}
 use Rattle.numbers.specs.Answers.{accepted, refused, Verdict, pass, refuse_when_else_}
 use Rattle.tp_machine.specs.Machine.{State, Out, step, begun, begin, opened, fed, clear}
 use Rattle.tp_machine.specs.Taking.{complete, taking}
-use Rattle.tp_machine.specs.Meaning.{Complete}
-use Rattle.tp_machine.specs.Runs.{admitted, WholeEnds, Reported}
+use Rattle.tp_machine.specs.Telling.{range-told, count-told}
+use Rattle.tp_machine.specs.Meaning.{range, Complete}
+use Rattle.tp_machine.specs.Runs.{admitted, Numbered, WholeEnds, Reported}
 use Rattle.tp_stream.specs.Stream.{stored, blank}
 use Rattle.tp_words.specs.Words.{size, unfit, stream-of, state-of, put}
 use Rattle.hub.specs.declared.answers.Answer.{Answer}
-use Rattle.hub.specs.Answers.{row, told, no-values, one-value, report-values}
+use Rattle.hub.specs.Answers.{row, told, no-values, one-value, report-values, range-values}
 
 -- 38 where the words are too few
 abbrev pub in-words : List ℕ → Verdict → Verdict
@@ -62,6 +63,13 @@ pub record Clears (ws : List ℕ) (r : Answer) (ws′ : List ℕ) : Type 0 where
   pub words : ws′ ≡ cond (unfit ws) ws (put ws (stored (stream-of ws) (clear (state-of ws))))
   pub state : unfit ws ≡ false → state-of ws′ ≡ clear (state-of ws)
 
+-- how many segments were accepted, and the range that begins first at `from` or behind it
+abbrev pub counts : List ℕ → Answer
+counts ws = told one-value (count-told (state-of ws))
+
+abbrev pub ranges : List ℕ → (from : ℕ) → Answer
+ranges ws from = told range-values (range-told (state-of ws) from)
+
 -- ---- calls one after the other
 
 -- segments come, each to the words and the buffer that the call before left; with the answer of the last call
@@ -99,6 +107,8 @@ pub record Shut (ws : List ℕ) : Type 0 where
   pub reporting : (buf : List ℕ) (r : Answer) (buf′ : List ℕ) → Takes ws buf r buf′ → (r ≡ row 38 []) × (buf′ ≡ buf)
   pub clearing : (r : Answer) (ws′ : List ℕ) → Clears ws r ws′ → (r ≡ row 38 []) × (ws′ ≡ ws)
   pub incomplete : completes ws ≡ row 0 (0 ∷ [])
+  pub counting : counts ws ≡ row 38 []
+  pub ranging : (from : ℕ) → ranges ws from ≡ row 38 []
 
 pub record OverWords : Type 0 where
   -- so what is shown of every run of the machine (tp_machine, Theorems) holds of what C calls
@@ -108,4 +118,8 @@ pub record OverWords : Type 0 where
   -- and its report is then given, whatever came
   pub reports : {limit : ℕ} {buf ws′ buf′ b : List ℕ} {segs : List (List ℕ)} {r t : Answer} → Called limit buf segs ws′ buf′ r → Complete (state-of ws′) → Takes ws′ buf′ t b
       → Reports (admitted (opened limit buf) segs) t b
+  -- the count that is told is that of the accepted segments, and a range is told with the place of the latest of them that lies in it
+  pub counted : {limit : ℕ} {buf ws′ buf′ : List ℕ} {segs : List (List ℕ)} {r : Answer} → Called limit buf segs ws′ buf′ r → counts ws′ ≡ row 0 (length (admitted (opened limit buf) segs) ∷ [])
+  pub numbered : {limit : ℕ} {buf ws′ buf′ : List ℕ} {segs : List (List ℕ)} {r : Answer} → Called limit buf segs ws′ buf′ r → (from start end number : ℕ)
+      → ranges ws′ from ≡ row 0 (start ∷ end ∷ number ∷ []) → Numbered (admitted (opened limit buf) segs) (range start end number)
   pub unfit-shut : (ws : List ℕ) → unfit ws ≡ true → Shut ws

@@ -11,13 +11,15 @@ use refusal::three;
 use sd_index::FoundAnswer;
 use sd_option::reading::OptionAnswer;
 use sd_option::reading::OptionHead;
+use tp_stream::RangeAnswer;
 ghost use mathlib.Core.Path.{_≡_};
 ghost use mathlib.Core.List.{[]};
 ghost use mathlib.Core.Bool.{cond};
 ghost use Rattle.refusal.specs.Said.{said, verdict-said, count-said};
 ghost use Rattle.sd_option.specs.Reading.{option-said};
 ghost use Rattle.sd_index.specs.Found.{found-said};
-ghost use Rattle.hub.specs.Answers.{row, without-count, no-values, refusal-row, told, one-value, head-values, located-values};
+ghost use Rattle.tp_stream.specs.Telling.{range-said};
+ghost use Rattle.hub.specs.Answers.{row, without-count, no-values, refusal-row, told, one-value, head-values, located-values, range-values};
 
 // A number, and its values in order; places that it does not use hold 0.
 #[repr(C)]
@@ -106,5 +108,20 @@ pub(crate) fn found_answer(answer: FoundAnswer) -> Answer
             head_answer(head, offset.0)
         }
         FoundAnswer::Refused(refusal) => refused(refusal),
+    }
+}
+
+// The answer that is a range of a stream: where it begins and ends, and its number.
+pub(crate) fn range_answer(answer: RangeAnswer) -> Answer
+    ensures { λ r. ⌜ r ≡ told range-values (range-said answer) ⌝ }
+{
+    match answer {
+        RangeAnswer::Good(range) => answer_of(three(
+            0,
+            range.start as u64,
+            range.end as u64,
+            range.number as u64,
+        )),
+        RangeAnswer::Refused(refusal) => refused(refusal),
     }
 }

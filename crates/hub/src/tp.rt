@@ -2,6 +2,7 @@
 use crate::answers::Answer;
 use crate::answers::accepted;
 use crate::answers::count_answer;
+use crate::answers::range_answer;
 use crate::answers::refused;
 use crate::answers::verdict_answer;
 use refusal::Count;
@@ -13,7 +14,7 @@ use tp_words::put;
 use tp_words::stream_of;
 use tp_words::unfit;
 ghost use mathlib.Core.Path.{_≡_};
-ghost use Rattle.hub.specs.Tp.{Begins, Consumes, completes, Takes, Clears};
+ghost use Rattle.hub.specs.Tp.{Begins, Consumes, completes, Takes, Clears, counts, ranges};
 
 // A stream begun in these words: 38 where they are too few, then 36, and the stream of limit 0.
 #[no_mangle]
@@ -79,4 +80,20 @@ pub extern "C" fn viaductle_clear(words: &mut [u32]) -> Answer
     }
     put(words, tp_stream::clear(stream_of(words)));
     verdict_answer(Verdict::Passed)
+}
+
+// How many segments were accepted since the stream was begun or cleared: 38, or their count.
+#[no_mangle]
+pub extern "C" fn viaductle_count(words: &[u32]) -> Answer
+    ensures { λ r. ⌜ r ≡ counts (now (words .entry)) ⌝ }
+{
+    count_answer(tp_stream::accepted(stream_of(words)))
+}
+
+// Of the ranges that begin at `from` or behind it the one that begins first: 38, 20, or where it begins and ends, and its number.
+#[no_mangle]
+pub extern "C" fn viaductle_range(words: &[u32], from: u32) -> Answer
+    ensures { λ r. ⌜ r ≡ ranges (now (words .entry)) from ⌝ }
+{
+    range_answer(tp_stream::range_from(stream_of(words), from))
 }

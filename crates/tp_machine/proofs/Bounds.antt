@@ -6,6 +6,7 @@ use Rattle.tp_machine.specs.Segments.{tp-type, is-segment, offset, more,
 use Rattle.tp_machine.specs.Ranges.{any, touch, hull-of, keep, grow, joined, some-touch, greatest-end}
 use Rattle.tp_machine.specs.Machine.{bad-range, bad-state, judged, after, step, begun, begin, fed, clear}
 use Rattle.tp_machine.specs.Taking.{complete, ready, taking}
+use Rattle.tp_machine.specs.Telling.{first-from, range-told, count-told}
 use Rattle.tp_machine.specs.Bounds.{Fills, Full, OddEven, Bounds}
 
 -- how many ranges are held; each by itself, since what one declaration may compute has a bound
@@ -22,7 +23,7 @@ unfolding be16 be32 at16 at32 refuse_when_else_ given tp-type is-segment offset 
 odd-even = refl
 
 pub bounds : Bounds
-unfolding be16 be32 at16 at32 refuse_when_else_ given tp-type is-segment offset more payload without-tp header pasted written any touch hull-of keep grow joined some-touch greatest-end bad-range bad-state judged after step begun begin fed clear complete ready taking
+unfolding be16 be32 at16 at32 refuse_when_else_ given tp-type is-segment offset more payload without-tp header pasted written any touch hull-of keep grow joined some-touch greatest-end bad-range bad-state judged after step begun begin fed clear complete ready taking first-from range-told count-told
 bounds = record {
   cases = (refl, (refl, (refl, (refl, (refl, (refl, (refl, tt)))))));
   segment-lines = record {
@@ -70,6 +71,11 @@ bounds = record {
     last-given = refl;
     counted-out = refl;
     cleared-at-last = refl;
+    told-first = refl;
+    told-at-start = refl;
+    told-next = refl;
+    told-none = refl;
+    told-count = refl;
     taken-at-last = refl;
   };
   highest = (refl, refl);

@@ -288,7 +288,8 @@ pub joined-at-zero : (n : TpRange) (rs : List TpRange) → any at-zero (joined n
 joined-at-zero n rs = joined-any at-zero n (λ g r _ _. hull-at-zero g r) rs
 
 -- ---- the order of the ranges
-same-range : (a b : TpRange) → a .start ≡ b .start → a .end ≡ b .end → a .number ≡ b .number → a ≡ b
+-- two ranges are equal by their fields
+pub same-range : (a b : TpRange) → a .start ≡ b .start → a .end ≡ b .end → a .number ≡ b .number → a ≡ b
 same-range a b p q r = ap₂ (λ (s e : ℕ). range s e (a .number)) p q ∙ ap (range (b .start) (b .end)) r
 
 hull-swap : (g a b : TpRange) → hull-of (hull-of g a) b ≡ hull-of (hull-of g b) a

@@ -4,6 +4,7 @@ pub mod Lists
 pub mod Joining
 pub mod Greatest
 pub mod Tests
+pub mod Telling
 pub mod RuleLaws
 pub mod Writing
 pub mod Steps

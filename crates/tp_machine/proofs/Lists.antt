@@ -3,7 +3,7 @@ use Prim.Native.Nat.{ℕ, suc}
 use mathlib.Core.Path.{_≡_, refl, sym, ap, subst, _∙_}
 use mathlib.Core.Bool.{Bool, true, false, _||_, cond, or-true, false≢true}
 use mathlib.Core.List.{List, [], _∷_, _++_, append-assoc}
-use mathlib.Core.Logic.{inl, inr, ⊎-elim, _≢_}
+use mathlib.Core.Logic.{_⊎_, inl, inr, ⊎-elim, _≢_}
 use native.Mathlib.Omega.{arith}
 use lib.ListN.{length}
 use Rattle.numbers.specs.Answers.{All}
@@ -116,6 +116,20 @@ module _ {A : Type 0} where
   pub one-behind : (xs : List A) (g : A) → OneOf g (xs ++ (g ∷ []))
   one-behind [] g = inl refl
   one-behind (x ∷ xs) g = inr (one-behind xs g)
+
+  -- it has what each of them has
+  pub one-has : (P : A → Type 0) (xs : List A) (x : A) → All P xs → OneOf x xs → P x
+  one-has P [] x a o = absurd o
+  one-has P (y ∷ xs) x a (inl e) = subst P (sym e) (a .0)
+  one-has P (y ∷ xs) x a (inr o) = one-has P xs x (a .1) o
+
+  -- two of them are the same one, or are related one way or the other
+  pub two-of : (R : A → A → Type 0) (xs : List A) (x y : A) → Pairwise R xs → OneOf x xs → OneOf y xs → (x ≡ y) ⊎ (R x y ⊎ R y x)
+  two-of R [] x y p o k = absurd o
+  two-of R (z ∷ xs) x y p (inl e) (inl f) = inl (e ∙ sym f)
+  two-of R (z ∷ xs) x y p (inl e) (inr k) = inr (inl (subst (λ (w : A). R w y) (sym e) (one-has (R z) xs y (p .0) k)))
+  two-of R (z ∷ xs) x y p (inr o) (inl f) = inr (inr (subst (λ (w : A). R w x) (sym f) (one-has (R z) xs x (p .0) o)))
+  two-of R (z ∷ xs) x y p (inr o) (inr k) = two-of R xs x y (p .1) o k
 
   -- it can be brought to the front
   to-front : (x : A) (ys : List A) → OneOf x ys → (zs : List A) × Rearranged ys (x ∷ zs)

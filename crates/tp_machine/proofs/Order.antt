@@ -6,10 +6,11 @@ use Rattle.tp_machine.specs.Segments.{tp-type, is-segment, offset, more,
 use Rattle.tp_machine.specs.Ranges.{any, touch, hull-of, keep, grow, joined, some-touch, greatest-end}
 use Rattle.tp_machine.specs.Machine.{bad-range, bad-state, judged, after, step, begun, begin, fed}
 use Rattle.tp_machine.specs.Taking.{complete, ready, taking}
+use Rattle.tp_machine.specs.Telling.{first-from, range-told, count-told}
 use Rattle.tp_machine.specs.Order.{Order}
 
 pub order : Order
-unfolding be16 be32 at16 at32 refuse_when_else_ given tp-type is-segment offset more payload without-tp header pasted written any touch hull-of keep grow joined some-touch greatest-end bad-range bad-state judged after step begun begin fed complete ready taking
+unfolding be16 be32 at16 at32 refuse_when_else_ given tp-type is-segment offset more payload without-tp header pasted written any touch hull-of keep grow joined some-touch greatest-end bad-range bad-state judged after step begun begin fed complete ready taking first-from range-told count-told
 order = record {
   segment = record {
     38-before-30 = refl;
@@ -24,5 +25,7 @@ order = record {
     39-last = refl;
   };
   taken = record { 38-before-37 = refl; 37-before-34 = refl; 34-last = refl };
+  range = record { 38-before-20 = refl; 20-last = refl };
   begins = refl;
+  count = refl;
 }

@@ -24,6 +24,7 @@ use Rattle.tp_machine.specs.Theorems.{RulesFollowed}
 use Rattle.numbers.proofs.TestLaws.{and-inv, or-cases}
 use Rattle.tp_machine.proofs.Greatest.{greatest-told, greatest-past}
 use Rattle.tp_machine.proofs.Tests.{segment-means, good-means, complete-means}
+use Rattle.tp_machine.proofs.Telling.{range-follows, count-follows}
 
 begin-follows : (limit : ℕ) → Follows (begun limit) (begin-rules limit)
 unfolding begun
@@ -84,4 +85,4 @@ taking-follows p room =
     (follows-accepted _)))
 
 pub rules-followed : RulesFollowed
-rules-followed = record { begins = begin-follows; segment = segment-follows; taken = taking-follows }
+rules-followed = record { begins = begin-follows; segment = segment-follows; taken = taking-follows; range = range-follows; count = count-follows }

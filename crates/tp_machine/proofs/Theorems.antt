@@ -1,6 +1,7 @@
 -- All that is shown of the machine, each from the file that proves it. Assumes nothing.
 use Rattle.tp_machine.specs.Theorems.{Theorems}
 use Rattle.tp_machine.proofs.Tests.{segment-means, good-means, accepted-means, complete-means}
+use Rattle.tp_machine.proofs.Telling.{range-means, count-means, every-range}
 use Rattle.tp_machine.proofs.RuleLaws.{rules-followed}
 use Rattle.tp_machine.proofs.Writing.{header-means}
 use Rattle.tp_machine.proofs.Steps.{every-step, every-taking, empties, bytes-unseen, ranges-depend, never-malformed}
@@ -25,6 +26,8 @@ theorems = record {
   accepted-means = accepted-means;
   greatest-means = greatest-means;
   complete-means = complete-means;
+  range-means = range-means;
+  count-means = count-means;
   rules-followed = rules-followed;
   order = order;
   empties = empties;
@@ -34,6 +37,7 @@ theorems = record {
   joining-covers = joining-covers;
   joining-order-unseen = joining-order-unseen;
   ranges-depend = ranges-depend;
+  every-range = every-range;
   never-malformed = never-malformed;
   end-is-greatest = end-is-greatest;
   complete-ends = complete-ends;

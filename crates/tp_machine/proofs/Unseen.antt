@@ -14,6 +14,7 @@ use Rattle.tp_machine.specs.declared.TpEnd.{TpEnd}
 use Rattle.tp_machine.specs.Lists.{Pairwise, Rearranged}
 use Rattle.tp_machine.specs.Machine.{State, bad-range, bad-state, taken, judged, after, step, fed, clear}
 use Rattle.tp_machine.specs.Taking.{is-known, whole, complete, ready, taking}
+use Rattle.tp_machine.specs.Telling.{first-from, range-told, count-told}
 use Rattle.tp_machine.specs.Meaning.{range, range-of, Apart, Fine, Good}
 use Rattle.tp_machine.specs.Runs.{Same, Alike}
 use Rattle.tp_machine.specs.Theorems.{SetIsOrder, Unseen, OrderUnseen, RunsAlike}
@@ -21,7 +22,8 @@ use Rattle.numbers.proofs.TestLaws.{same-test}
 use Rattle.tp_machine.proofs.Lists.{same-elements, any-moved, moved-back, length-moved, one-moved}
 use Rattle.tp_machine.proofs.Joining.{joining-order-unseen, touch-moved}
 use Rattle.tp_machine.proofs.Greatest.{greatest-moved}
-use Rattle.tp_machine.proofs.Tests.{whole-means}
+use Rattle.tp_machine.proofs.Tests.{good-means, whole-means}
+use Rattle.tp_machine.proofs.Telling.{first-alike}
 
 -- ---- the set
 distinct : (rs : List TpRange) → All (λ r. r .start ≤ r .end) rs → Pairwise Apart rs → Pairwise _≢_ rs
@@ -98,9 +100,31 @@ module _ (limit : ℕ) (end : TpEnd) (count : ℕ) (rs qs : List TpRange) (r : R
   unfolding taking
   taking-moved buf = rw (ready-moved (length buf))
 
+  -- where neither is malformed
+  first-same : (x : ℕ) (t : Bool) → bad-state p ≡ t → (refuse malformed-state when t else first-from x rs) ≡ (refuse malformed-state when t else first-from x qs)
+  unfolding p q refuse_when_else_
+  first-same x true e = refl
+  first-same x false e = first-alike p q (good-means p .0 e) (good-means q .0 (sym bad-moved ∙ e)) r x
+
+  range-moved : (x : ℕ) → range-told p x ≡ range-told q x
+  unfolding p q range-told
+  range-moved x = rw (← bad-moved) (first-same x (bad-state p) refl)
+
+  count-moved : count-told p ≡ count-told q
+  unfolding p q count-told
+  count-moved = rw bad-moved
+
   unseen : Unseen p q
   unfolding p q clear
-  unseen = record { malformed = bad-moved; step-alike = step-moved; complete-alike = complete-moved; taking-alike = taking-moved; clear-alike = refl }
+  unseen = record {
+    malformed = bad-moved;
+    step-alike = step-moved;
+    complete-alike = complete-moved;
+    taking-alike = taking-moved;
+    clear-alike = refl;
+    range-alike = range-moved;
+    count-alike = count-moved;
+  }
 
 pub order-unseen : OrderUnseen
 unfolding p q

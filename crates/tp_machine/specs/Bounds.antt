@@ -15,6 +15,7 @@ use Rattle.tp_machine.specs.declared.TpEnd.the-variants.{Unknown, Known}
 use Rattle.tp_machine.specs.Segments.{is-segment}
 use Rattle.tp_machine.specs.Machine.{State, fresh, Out, bad-state, step, begun, begin, opened, fed, clear}
 use Rattle.tp_machine.specs.Taking.{complete, taking}
+use Rattle.tp_machine.specs.Telling.{range-told, count-told}
 use Rattle.tp_machine.specs.Meaning.{range}
 use Rattle.tp_machine.specs.Cases.{_more-at_, _final-at_, Case, case, seen, Hold}
 
@@ -186,6 +187,12 @@ pub record Arrivals : Type 0 where
   pub last-given : sixteen-to (numbered 1 4294967294) ≡ record { answer = pass; count = 4294967295; ranges = range 0 32 4294967295 ∷ [] }
   pub counted-out : sixteen-to (numbered 1 4294967295) ≡ record { answer = refused (refusal 39 []); count = 4294967295; ranges = range 0 16 1 ∷ [] }
   pub cleared-at-last : sixteen-to (clear (numbered 1 4294967295)) ≡ record { answer = pass; count = 1; ranges = range 16 32 1 ∷ [] }
+  -- ranges are told as they begin, each with its number, whichever came first
+  pub told-first : range-told (after-all (16 more-at 64 ∷ 16 more-at 0 ∷ []) .state) 0 ≡ accepted (range 0 16 2)
+  pub told-at-start : range-told (after-all (16 more-at 64 ∷ 16 more-at 0 ∷ []) .state) 64 ≡ accepted (range 64 80 1)
+  pub told-next : range-told (after-all (16 more-at 64 ∷ 16 more-at 0 ∷ []) .state) 1 ≡ accepted (range 64 80 1)
+  pub told-none : range-told (after-all (16 more-at 64 ∷ 16 more-at 0 ∷ []) .state) 65 ≡ refused (refusal 20 [])
+  pub told-count : count-told (after-all (16 more-at 64 ∷ 16 more-at 0 ∷ []) .state) ≡ accepted 2
   -- a report is taken at the last number all the same
   pub taken-at-last : taking (record { limit = 64; ranges = range 0 16 7 ∷ []; end = Known 16; count = 4294967295 }) (replicate 32 9) .answer ≡ accepted 16
 

@@ -2,6 +2,7 @@ pub mod Segments
 pub mod Ranges
 pub mod Machine
 pub mod Taking
+pub mod Telling
 pub mod Lists
 pub mod Meaning
 pub mod Rules

@@ -114,3 +114,9 @@ pub record Complete (p : State) : Type 0 where
   pub held : ℕ
   pub number : ℕ
   pub one-range : p .ranges ≡ range 0 held number ∷ []
+
+-- ---- not 20: of the ranges that begin at x or behind it r begins first
+pub record FirstFrom (rs : List TpRange) (x : ℕ) (r : TpRange) : Type 0 where
+  pub held : OneOf r rs
+  pub from : x ≤ r .start
+  pub first : All (λ q. x ≤ q .start → r .start ≤ q .start) rs

@@ -7,6 +7,7 @@ use Rattle.numbers.specs.Answers.{_gives_with_}
 use Rattle.tp_machine.specs.declared.TpEnd.the-variants.{Unknown, Known}
 use Rattle.tp_machine.specs.Machine.{State, fresh, step, begun}
 use Rattle.tp_machine.specs.Taking.{taking}
+use Rattle.tp_machine.specs.Telling.{range-told, count-told}
 use Rattle.tp_machine.specs.Meaning.{range}
 use Rattle.tp_machine.specs.Cases.{_more-at_, _final-at_}
 use Rattle.tp_machine.specs.Bounds.{spread, holding-these}
@@ -41,9 +42,17 @@ pub record TakingInOrder : Type 0 where
   pub 37-before-34 : taking (fresh 0) [] .answer gives 37 with []
   pub 34-last : taking (holding-these 0 (range 0 0 1 ∷ []) (Known 0)) [] .answer gives 34 with (16 ∷ [])
 
+-- a range is asked for: 38, 20
+pub record RangeInOrder : Type 0 where
+  pub 38-before-20 : range-told (fresh 65521) 0 gives 38 with []
+  pub 20-last : range-told (fresh 0) 0 gives 20 with []
+
 -- ---- all of them
 pub record Order : Type 0 where
   pub segment : SegmentInOrder
   pub taken : TakingInOrder
+  pub range : RangeInOrder
   -- a stream is begun: 36 alone
   pub begins : begun 65521 gives 36 with (65521 ∷ [])
+  -- it is asked how many were accepted: 38 alone
+  pub count : count-told (fresh 65521) gives 38 with []

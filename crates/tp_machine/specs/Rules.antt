@@ -7,6 +7,7 @@ use mathlib.Core.List.{List, [], _∷_}
 use mathlib.Core.Logic.{_⊎_, _≢_}
 use lib.ListN.{length}
 use Rattle.numbers.specs.Refusals.{Refusal, refusal}
+use Rattle.numbers.specs.Answers.{All}
 use Rattle.numbers.specs.Rules.{Rules, accept, _if_else_, part_else_}
 use Rattle.tp_machine.specs.declared.TpRange.{TpRange}
 use Rattle.tp_machine.specs.declared.TpEnd.{TpEnd}
@@ -58,4 +59,17 @@ taking-rules p room =
     refusal 38 [] if ¬ Good p else
     refusal 37 [] if ¬ Complete p else
     refusal 34 ((16 + end-held (p .ranges)) ∷ []) if room < 16 + end-held (p .ranges) else
+    accept
+
+-- a range is asked for: the first that begins at `x` or behind it
+abbrev pub range-rules : (p : State) (x : ℕ) → Rules
+range-rules p x =
+    refusal 38 [] if ¬ Good p else
+    refusal 20 [] if All (λ r. r .start < x) (p .ranges) else
+    accept
+
+-- it is asked how many segments were accepted
+abbrev pub count-rules : (p : State) → Rules
+count-rules p =
+    refusal 38 [] if ¬ Good p else
     accept

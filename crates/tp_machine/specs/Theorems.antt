@@ -11,13 +11,14 @@ use Rattle.numbers.specs.Answers.{accepted, refused, pass, All}
 use Rattle.numbers.specs.Rules.{Follows}
 use Rattle.tp_machine.specs.declared.TpRange.{TpRange}
 use Rattle.tp_machine.specs.declared.TpEnd.the-variants.{Unknown, Known}
-use Rattle.tp_machine.specs.Lists.{Rearranged, Latest}
+use Rattle.tp_machine.specs.Lists.{OneOf, Rearranged, Latest}
 use Rattle.tp_machine.specs.Segments.{is-segment, header, pasted, written}
 use Rattle.tp_machine.specs.Ranges.{any, joined, greatest-end}
 use Rattle.tp_machine.specs.Machine.{highest, last-number, State, Out, bad-state, taken, judged, step, begun, begin, opened, fed, clear}
 use Rattle.tp_machine.specs.Taking.{complete, ready, Taken, taking}
-use Rattle.tp_machine.specs.Meaning.{Segment, HeaderOf, range, Good, Greatest, Accepted, Complete}
-use Rattle.tp_machine.specs.Rules.{begin-rules, segment-rules, taking-rules}
+use Rattle.tp_machine.specs.Telling.{range-told, count-told}
+use Rattle.tp_machine.specs.Meaning.{Segment, HeaderOf, range, Good, Greatest, Accepted, Complete, FirstFrom}
+use Rattle.tp_machine.specs.Rules.{begin-rules, segment-rules, taking-rules, range-rules, count-rules}
 use Rattle.tp_machine.specs.Runs.{Reached, admitted, holds, covered, spans, brought, Made, Lies, Numbered, Ended, WholeEnds, Filled, Reported, Numbers, SameSet, Same, unnumbered, SamePlaces, Alike}
 use Rattle.tp_machine.specs.Cases.{Cases}
 use Rattle.tp_machine.specs.Bounds.{Bounds}
@@ -43,11 +44,20 @@ GreatestMeans = (r : TpRange) (rs : List TpRange) (x : ℕ) → (greatest-end (r
 abbrev pub CompleteMeans : Type 0
 CompleteMeans = (p : State) → (complete p ≡ true) ↔ Complete p
 
+-- the range that is told is the first, and it is told with its number
+abbrev pub RangeMeans : Type 0
+RangeMeans = (p : State) (x : ℕ) (r : TpRange) → (range-told p x ≡ accepted r) ↔ (Good p × FirstFrom (p .ranges) x r)
+
+abbrev pub CountMeans : Type 0
+CountMeans = (p : State) (n : ℕ) → (count-told p ≡ accepted n) ↔ (Good p × (p .count ≡ n))
+
 -- ---- the first refusal, with its values: each call is refused exactly as the rules say, and accepted exactly where they accept
 pub record RulesFollowed : Type 0 where
   pub begins : (limit : ℕ) → Follows (begun limit) (begin-rules limit)
   pub segment : (p : State) (seg : List ℕ) (room : ℕ) → Follows (judged p seg room) (segment-rules p seg room)
   pub taken : (p : State) (room : ℕ) → Follows (ready p room) (taking-rules p room)
+  pub range : (p : State) (x : ℕ) → Follows (range-told p x) (range-rules p x)
+  pub count : (p : State) → Follows (count-told p) (count-rules p)
 
 -- ---- a stream that is begun or cleared holds nothing: with 36 its limit is 0, and clearing keeps the limit
 pub record Empty (limit : ℕ) (p : State) : Type 0 where
@@ -100,6 +110,14 @@ pub record RangesDepend : Type 0 where
       → Rearranged (step p seg b .state .ranges) (step q seg c .state .ranges)
   pub without : (p q : State) (seg b c : List ℕ) → step p seg b .answer ≡ pass → step q seg c .answer ≡ pass → Rearranged (map unnumbered (p .ranges)) (map unnumbered (q .ranges))
       → Rearranged (map unnumbered (step p seg b .state .ranges)) (map unnumbered (step q seg c .state .ranges))
+
+-- ---- ranges told one after the other: each is told where it begins, and who asks again behind its end misses none
+pub record EachTold (p : State) : Type 0 where
+  pub own : (r : TpRange) → OneOf r (p .ranges) → range-told p (r .start) ≡ accepted r
+  pub none-missed : (r q : TpRange) → OneOf r (p .ranges) → OneOf q (p .ranges) → r .start < q .start → r .end + 1 ≤ q .start
+
+abbrev pub EveryRange : Type 0
+EveryRange = (p : State) → Good p → EachTold p
 
 -- ---- runs: no malformed state is come to, so that ranges stay apart and within the limit
 abbrev pub NeverMalformed : Type 0
@@ -175,6 +193,8 @@ pub record Unseen (p q : State) : Type 0 where
   pub complete-alike : complete p ≡ complete q
   pub taking-alike : (buf : List ℕ) → taking p buf ≡ taking q buf
   pub clear-alike : clear p ≡ clear q
+  pub range-alike : (x : ℕ) → range-told p x ≡ range-told q x
+  pub count-alike : count-told p ≡ count-told q
 
 abbrev pub OrderUnseen : Type 0
 OrderUnseen = (p q : State) → Same p q → Unseen p q
@@ -208,6 +228,8 @@ pub record Theorems : Type 0 where
   pub accepted-means : AcceptedMeans
   pub greatest-means : GreatestMeans
   pub complete-means : CompleteMeans
+  pub range-means : RangeMeans
+  pub count-means : CountMeans
   -- what is refused, and in which order
   pub rules-followed : RulesFollowed
   pub order : Order
@@ -218,6 +240,7 @@ pub record Theorems : Type 0 where
   pub joining-covers : JoiningCovers
   pub joining-order-unseen : JoiningOrderUnseen
   pub ranges-depend : RangesDepend
+  pub every-range : EveryRange
   pub never-malformed : NeverMalformed
   pub end-is-greatest : EndIsGreatest
   pub complete-ends : CompleteEnds

@@ -15,10 +15,6 @@ use Rattle.tp_machine.specs.Ranges.{any, touch, hull-of, unless, keep, grow-if,
 use Rattle.tp_machine.specs.Machine.{most}
 use Rattle.tp_range.specs.Joining.{none, placed, fitted, joined-in}
 
--- two ranges are equal by their fields
-pub range-eq : (a b : TpRange) → a .start ≡ b .start → a .end ≡ b .end → a .number ≡ b .number → a ≡ b
-range-eq a b p q r = λ i. record { start = p i; end = q i; number = r i }
-
 -- ---- one range more at the end
 unless-append : (b : Bool) (r : TpRange) (xs ys : List TpRange) → unless b r xs ++ ys ≡ unless b r (xs ++ ys)
 unless-append true r xs ys = refl
@@ -131,7 +127,7 @@ fitted-placed array count rs e = rw e
 
 -- ---- what is left of the first n from i on
 module _ (rs : List TpRange) (i n : ℕ) (d : TpRange) (h : i < n) (k : n ≤ length rs) where
-  front : drop i (take n rs) ≡ getD rs i d ∷ drop (i + 1) (take n rs)
+  pub front : drop i (take n rs) ≡ getD rs i d ∷ drop (i + 1) (take n rs)
   front = rw add-one (slice-cons i n rs d h k)
 
   -- a test of each: one passes here, or none does and the rest tells
@@ -156,7 +152,7 @@ module _ (rs : List TpRange) (i n : ℕ) (d : TpRange) (h : i < n) (k : n ≤ le
   unfolding greatest-end
   greatest-next x y e = rw (front, e) (omega arith)
 
-past-end : (rs : List TpRange) (i n : ℕ) → n ≤ i → drop i (take n rs) ≡ []
+pub past-end : (rs : List TpRange) (i n : ℕ) → n ≤ i → drop i (take n rs) ≡ []
 past-end rs i n h =
     let k : length (take n rs) ≤ i = simp length-take (omega arith) in
     drop-of-length-le (take n rs) k

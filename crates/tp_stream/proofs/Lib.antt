@@ -4,6 +4,7 @@ pub mod JudgingLaws
 pub mod WritingLaws
 pub mod StepLaws
 pub mod TakingLaws
+pub mod TellingLaws
 pub mod Unique
 pub mod Follows
 pub mod Record

@@ -1,3 +1,4 @@
 pub mod Stream
+pub mod Telling
 pub mod Promises
 pub mod Record

@@ -22,8 +22,12 @@ mod malformed; // malformed.rt: answer 38
 mod judging; // judging.rt: answer 36, and answers 38 and 30 to 34 of a segment
 mod writing; // writing.rt: what is written into the buffer
 mod taking; // taking.rt: answers 38, 37 and 34 of taking
+mod telling; // telling.rt: the count and the ranges with their numbers, answers 38 and 20
 
 pub use judging::previous_end;
+pub use telling::RangeAnswer;
+pub use telling::accepted;
+pub use telling::range_from;
 
 // The highest payload limit.
 pub const MAX_LIMIT: u32 = 65520;

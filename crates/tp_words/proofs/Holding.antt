@@ -17,6 +17,7 @@ use Rattle.tp_machine.specs.declared.TpEnd.{TpEnd}
 use Rattle.tp_machine.specs.declared.TpEnd.the-variants.{Unknown, Known}
 use Rattle.tp_machine.specs.Machine.{most, State, bad-state, judged, previous}
 use Rattle.tp_machine.specs.Taking.{complete, ready, taking}
+use Rattle.tp_machine.specs.Telling.{range-told, count-told}
 use Rattle.tp_machine.proofs.Lists.{or-cases}
 use Rattle.tp_machine.proofs.Steps.{step-refused}
 use Rattle.tp_range.specs.Joining.{none}
@@ -172,12 +173,14 @@ many-malformed ws h = go (unfit ws) refl
     go false e = ap (λ (s : TpStream). bad-state (view s)) (sym (told ws e)) ∙ sym (more-than-most (held-in ws) h)
 
 refuses : (p : State) → bad-state p ≡ true → Refuses p
-unfolding judged taking ready complete given
+unfolding judged taking ready complete given range-told count-told
 refuses p m =
     record {
       segments = λ seg buf. step-refused p seg buf malformed-state (when-hit malformed-state (bad-state p) _ m);
       report = λ buf. rw (m, when-hit);
       incomplete = rw m;
+      ranges = λ x. when-hit malformed-state (bad-state p) _ m;
+      count = when-hit malformed-state (bad-state p) _ m;
     }
 
 pub words-hold : WordsHold

@@ -10,6 +10,7 @@ use Rattle.numbers.specs.Refusals.{malformed-state}
 use Rattle.numbers.specs.Answers.{refused}
 use Rattle.tp_machine.specs.Machine.{most, State, bad-state, step}
 use Rattle.tp_machine.specs.Taking.{complete, taking}
+use Rattle.tp_machine.specs.Telling.{range-told, count-told}
 use Rattle.tp_stream.specs.declared.TpStream.{TpStream}
 use Rattle.tp_stream.specs.Stream.{view, stored}
 use Rattle.tp_words.specs.Words.{size, unfit, stream-of, state-of, put}
@@ -28,6 +29,8 @@ pub record Refuses (p : State) : Type 0 where
   pub segments : (seg buf : List ℕ) → step p seg buf ≡ record { answer = refused malformed-state; state = p; buffer = buf }
   pub report : (buf : List ℕ) → taking p buf ≡ record { answer = refused malformed-state; buffer = buf; part = [] }
   pub incomplete : complete p ≡ false
+  pub ranges : (x : ℕ) → range-told p x ≡ refused malformed-state
+  pub count : count-told p ≡ refused malformed-state
 
 pub record WordsHold : Type 0 where
   -- the stream that is read is the one that was put: limit, every place of its array, count, end and how many segments were accepted
