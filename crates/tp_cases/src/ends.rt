@@ -1,18 +1,18 @@
 // An end behind the data: final segments that end below what is held, and streams made by hand with a range past their end.
-use crate::Piece;
-use crate::ROOM;
-use crate::answered;
-use crate::begun;
-use crate::comes;
-use crate::last;
-use crate::more;
-use crate::taken;
 use case_lines::exported;
 use hub::tp::viaductle_complete;
 use print::number;
 use print::text;
 use tp_machine::TpEnd;
 use tp_machine::TpRange;
+use tp_pieces::Piece;
+use tp_pieces::ROOM;
+use tp_pieces::answered;
+use tp_pieces::begun;
+use tp_pieces::comes;
+use tp_pieces::last;
+use tp_pieces::more;
+use tp_pieces::taken;
 use tp_range::MAX_RANGES;
 use tp_stream::TpStream;
 use tp_words::WORDS;
@@ -44,13 +44,18 @@ fn made(end: u32, words: &mut [u32]) -> TpStream {
     text(b"made by hand, limit 64, 0 to 32 held, end ");
     number(end as usize);
     text(b"; ");
-    let held = TpRange { start: 0, end: 32 };
+    let held = TpRange {
+        start: 0,
+        end: 32,
+        number: 1,
+    };
     let ranges = [held; MAX_RANGES];
     let stream = TpStream {
         limit: 64,
         ranges,
         count: 1,
         end: TpEnd::Known(end),
+        accepted: 1,
     };
     put(words, stream);
     stream

@@ -1,6 +1,8 @@
-// Whether a stream is as a record says: complete, its end, its ranges as a set, and its report. Its words hold the limit, how many ranges are
-// held, whether an end is known, the end, and the ranges.
+// Whether a stream is as a record says: complete, its end, its ranges as a set, and its report; and how many segments it has accepted. The
+// first of its words hold the limit, how many ranges are held, whether an end is known, and the end.
 use hub::tp::viaductle_complete;
+use hub::tp::viaductle_count;
+use hub::tp::viaductle_range;
 use hub::tp::viaductle_take;
 use replay::check;
 use tp_range::MAX_RANGES;
@@ -13,19 +15,11 @@ pub(crate) fn word(words: &[u32], place: usize) -> u32 {
     0
 }
 
-// Whether a range is among the first `count`.
-fn holds(words: &[u32], count: u32, start: u32, end: u32) -> bool {
-    let mut i: u32 = 0;
-    while i < MAX_RANGES as u32 {
-        if i < count {
-            let place = 4 + 2 * i as usize;
-            if word(words, place) == start && word(words, place + 1) == end {
-                return true;
-            }
-        }
-        i += 1;
-    }
-    false
+// Whether a range is held.
+fn holds(words: &[u32], start: u32, end: u32) -> bool {
+    let answer = viaductle_range(words, start);
+    let values = answer.values;
+    answer.number == 0 && start as u64 == values[0] && end as u64 == values[1]
 }
 
 // Whether the ranges are the recorded ones. As many are held, and those recorded differ from each other, so it is enough that each is held.
@@ -39,7 +33,7 @@ fn ranges_agree(record: &[u8], words: &[u32]) -> bool {
         if (i as u32) < count {
             let start = check(record, 7 + 2 * i);
             let end = check(record, 8 + 2 * i);
-            if !holds(words, count, start, end) {
+            if !holds(words, start, end) {
                 return false;
             }
         }
@@ -76,6 +70,13 @@ fn complete_agrees(record: &[u8], words: &[u32]) -> bool {
     let answer = viaductle_complete(words);
     let values = answer.values;
     answer.number == 0 && check(record, 0) as u64 == values[0]
+}
+
+// How many segments the stream has accepted.
+pub(crate) fn accepted(words: &[u32]) -> u64 {
+    let answer = viaductle_count(words);
+    let values = answer.values;
+    values[0]
 }
 
 // Whether all that is recorded of the stream is so.

@@ -9,6 +9,7 @@ use replay::byte;
 use replay::input;
 use replay::recorded;
 use replay::same;
+use tp_stream::LAST_NUMBER;
 
 // The kinds of records.
 pub(crate) const BEGIN: u8 = 16;
@@ -41,9 +42,24 @@ fn answered(record: &[u8], words: &mut [u32], buffer: &mut [u8]) -> bool {
     }
 }
 
-// One record replayed: its answer, and the stream after it.
+// How many segments a stream has accepted after a record, where before it had so many: one more if this one was, none if it begins or is cleared.
+fn counted(record: &[u8], before: u64) -> u64 {
+    if byte(record, 0) != SEGMENT {
+        return 0;
+    }
+    if byte(record, 2) != 0 {
+        return before;
+    }
+    if before < LAST_NUMBER as u64 {
+        return before + 1;
+    }
+    before
+}
+
+// One record replayed: its answer, the stream after it, and how many segments that has accepted.
 pub(crate) fn agrees(record: &[u8], words: &mut [u32], buffer: &mut [u8]) -> bool {
+    let before = state::accepted(words);
     let answer = answered(record, words, buffer);
     let stream = state::agrees(record, words, buffer);
-    answer && stream
+    answer && stream && state::accepted(words) == counted(record, before)
 }

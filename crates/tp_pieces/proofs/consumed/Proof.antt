@@ -1,10 +1,10 @@
--- `tp_cases::consumed` is safe: a segment of at most 16 bytes of payload lies within its 36 bytes. Assumes nothing.
+-- `tp_pieces::consumed` is safe: a segment of at most 16 bytes of payload lies within its 36 bytes. Assumes nothing.
 use mathlib.Core.Path.{sym}
 use native.Mathlib.Omega.{arith}
 use lib.Seq.{length-take-le}
 use borrow.Author.Needs.{needs}
-use Rattle.tp_cases.proofs.consumed.Statement.{statement}
-use Rattle.tp_cases.proofs.consumed.Tie as tie
+use Rattle.tp_pieces.proofs.consumed.Statement.{statement}
+use Rattle.tp_pieces.proofs.consumed.Tie as tie
 
 slice-aggregate-consume : tie.Need-slice-aggregate-consume
 slice-aggregate-consume c = sym (length-take-le _ _ (omega arith))

@@ -1,32 +1,32 @@
--- `tp_replay::state::holds` is safe and ends. Assumes nothing.
+-- `number_cases::full_at_last` is safe and ends. Assumes nothing.
 use Prim.Native.Nat.{_-_, _≤_}
 use Rattle.tp_machine.specs.Machine.{most}
 use borrow.Author.Needs.{needs}
-use Rattle.tp_replay.proofs.state.holds.Statement.{statement}
-use Rattle.tp_replay.proofs.state.holds.Tie as tie
+use Rattle.number_cases.proofs.full_at_last.Statement.{statement}
+use Rattle.number_cases.proofs.full_at_last.Tie as tie
 
 abbrev Inv-loop : tie.InvT-loop
-Inv-loop words count start end i₀ i = i ≤ most
+Inv-loop words ranges₀ i₀ ranges i = i ≤ most
 
 abbrev μ-loop : tie.MeasureT-loop
-μ-loop words count start end i₀ i = most - i
+μ-loop words ranges₀ i₀ ranges i = most - i
 
-pub holds-spec : {M : Type 1} → statement M
-holds-spec =
+pub full-at-last-spec : {M : Type 1} → statement M
+full-at-last-spec =
     tie.close
     (tie.spec
     Inv-loop
     μ-loop
     (λ c. search needs)
+    (λ c κs. search needs)
+    (λ c. search needs)
+    (λ c. search needs)
+    (λ c. search needs)
+    (λ c. search needs)
     (λ c. search needs)
     (λ c. search needs)
     (λ c. search needs)
     (λ c. search needs)
     (λ c κs. search needs)
-    (λ c. search needs)
-    (λ c κs. search needs)
-    (λ c. search needs)
-    (λ c. search needs)
-    (λ c. search needs)
     (λ c. search needs)
     (λ c. search needs))
