@@ -61,7 +61,7 @@ enum viaductle_number {
     VIADUCTLE_INTERFACE_VERSION = 17,        /* version: not 1 */
     VIADUCTLE_MESSAGE_TYPE = 18,             /* type: not 0x02 */
     VIADUCTLE_RETURN_CODE = 19,              /* code: not 0 */
-    VIADUCTLE_NOTHING_THERE = 20,            /* none: no option or entry at this place */
+    VIADUCTLE_NOTHING_THERE = 20,            /* none: no option, entry or range at this place */
     VIADUCTLE_TABLE_MISFIT = 21,             /* none: the table does not fit these bytes */
     VIADUCTLE_FEW_SLOTS = 22,                /* slots: fewer than 347 were lent */
     VIADUCTLE_WRONG_PROTOCOL = 23,           /* protocol (strict setting), place */
@@ -73,7 +73,8 @@ enum viaductle_number {
     VIADUCTLE_RANGES_FULL = 35,              /* none: more than VIADUCTLE_MAX_RANGES after joining */
     VIADUCTLE_LIMIT_TOO_LARGE = 36,          /* limit: above 65,520 */
     VIADUCTLE_NOT_COMPLETE = 37,             /* none */
-    VIADUCTLE_MALFORMED_STATE = 38           /* none */
+    VIADUCTLE_MALFORMED_STATE = 38,          /* none */
+    VIADUCTLE_COUNT_FULL = 39                /* none: VIADUCTLE_LAST_NUMBER segments were accepted, and the stream was not cleared */
 };
 
 /* 9's first value, and the numbers behind it. `item` is where the item's length byte stands in the string, counted from the string's first byte
@@ -137,6 +138,7 @@ static inline const char *viaductle_name(uint64_t number) {
     case VIADUCTLE_LIMIT_TOO_LARGE: return "payload limit too large";
     case VIADUCTLE_NOT_COMPLETE: return "report not complete";
     case VIADUCTLE_MALFORMED_STATE: return "malformed stream state";
+    case VIADUCTLE_COUNT_FULL: return "no number left for a segment, clear the stream";
     default: return "number unknown to this header";
     }
 }
@@ -291,15 +293,23 @@ viaductle_entry viaductle_next_entry(const uint8_t *entries, size_t len, size_t 
 
 /* A stream is a state and a buffer, both the caller's: one for each sender, message id and request id, which are not judged here, and the same
  * buffer at each call (a longer one may follow, with the old bytes in front). `viaductle_begin`; `viaductle_consume` for each segment; once
- * `viaductle_complete` says 1, `viaductle_take`, and `viaductle_clear` for the next message. */
+ * `viaductle_complete` says 1, `viaductle_take`, and `viaductle_clear` for the next message.
+ *
+ * No clock is asked. Each accepted segment has a number: the first since the stream was begun or cleared has 1, the next 2. Each range carries the
+ * number of the latest one in it; `viaductle_count` and `viaductle_range` tell them. */
 
 /* How many ranges a stream holds at most: parts of the report that have arrived, with gaps between them. */
 #define VIADUCTLE_MAX_RANGES 64
 
+/* The last number that a segment can have. */
+#define VIADUCTLE_LAST_NUMBER 4294967295u
+
 /* The state of a stream is an array of VIADUCTLE_WORDS words that the caller keeps: the limit, how many ranges are held, whether an end is known
- * (0 or 1), the end, and VIADUCTLE_MAX_RANGES pairs of start and end, of which as many count as ranges are held. It can be copied, stored and
- * sent; any words get an answer. Words past these are never touched. */
-#define VIADUCTLE_WORDS (4 + 2 * VIADUCTLE_MAX_RANGES)
+ * (0 or 1), the end, how many segments were accepted, and for each of VIADUCTLE_MAX_RANGES ranges its start, its end and its number, of which as
+ * many count as ranges are held. It can be copied, stored and sent; any words get an answer. Words past these are never touched. */
+#define VIADUCTLE_FRONT_WORDS 5
+#define VIADUCTLE_RANGE_WORDS 3
+#define VIADUCTLE_WORDS (VIADUCTLE_FRONT_WORDS + VIADUCTLE_RANGE_WORDS * VIADUCTLE_MAX_RANGES)
 
 /* The highest payload limit, and a buffer's bytes that are enough for any segment under a limit. */
 #define VIADUCTLE_MAX_LIMIT 65520
@@ -310,9 +320,9 @@ viaductle_entry viaductle_next_entry(const uint8_t *entries, size_t len, size_t 
 viaductle_answer viaductle_begin(uint32_t *state, size_t words, uint32_t limit);
 
 /* One segment comes: 16 header bytes, 4 TP bytes and its payload, as on the wire.
- *   0: its range is joined, and its payload stands in the buffer at 16 plus its offset, over what was there; of the one with offset 0 the header
+ *   0: its range is joined, with the next number, and its payload stands in the buffer at 16 plus its offset, over what was there; of the one with offset 0 the header
  *      stands at 0, without the TP bit (0x20) of its type.
- *   38, 30, 31, 32, 33, 34, 35; then state and buffer are as they were. 33: values[1] is where this segment ends, and values[0] the end that is
+ *   38, 30, 31, 32, 33, 34, 35, 39; then state and buffer are as they were. 33: values[1] is where this segment ends, and values[0] the end that is
  *      known, where it passes that or is a final one with another end; else how far the data held reaches, where a final one ends below that. */
 viaductle_answer viaductle_consume(uint32_t *state, size_t words, const uint8_t *segment, size_t len, uint8_t *buffer, size_t room);
 
@@ -324,11 +334,22 @@ viaductle_answer viaductle_complete(const uint32_t *state, size_t words);
  *   38, 37, 34; then the buffer is as it was. */
 viaductle_answer viaductle_take(const uint32_t *state, size_t words, uint8_t *buffer, size_t room);
 
-/* Ranges and end are forgotten and the limit is kept; pairs that hold no range any more stay as they are. No byte of the buffer is touched.
- *   0, also where the ranges or the end were malformed.
+/* Ranges, end and count are forgotten and the limit is kept; the words of places that hold no range any more stay as they are. No byte of the
+ * buffer is touched.
+ *   0, also where the ranges, their numbers or the end were malformed.
  *   38 where the words hold no stream, and then nothing is written: fewer than VIADUCTLE_WORDS, or neither 0 nor 1 where they tell whether an
  *   end is known. */
 viaductle_answer viaductle_clear(uint32_t *state, size_t words);
+
+/* How many segments were accepted since the stream was begun or cleared; refused ones count nowhere. 0: values[0] = the count. 38. */
+viaductle_answer viaductle_count(const uint32_t *state, size_t words);
+
+/* Of the ranges that begin at `from` or behind it the one that begins first. To go through all: begin at 0, and go on at values[1] + 1. Which was
+ * held first is not seen.
+ *   0: values[0] = where it begins, values[1] = where it ends (not included), values[2] = the number of the latest accepted segment in it, from 1 up
+ *      to the count. No two ranges have the same; where there is one range, its number is the count.
+ *   38, 20 where no range begins there or behind. */
+viaductle_answer viaductle_range(const uint32_t *state, size_t words, uint32_t from);
 
 #ifdef __cplusplus
 }

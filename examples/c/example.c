@@ -112,6 +112,13 @@ static void join_segments(void) {
         if (offset == 0)
             break;
     }
+    for (uint32_t from = 0;;) { /* what has arrived, and which segment of it came last */
+        viaductle_answer range = viaductle_range(state, VIADUCTLE_WORDS, from);
+        if (range.number != VIADUCTLE_ACCEPTED)
+            break;
+        printf("arrived: %" PRIu64 " to %" PRIu64 ", number %" PRIu64 "\n", range.values[0], range.values[1], range.values[2]);
+        from = (uint32_t)range.values[1] + 1;
+    }
     viaductle_answer taken = viaductle_take(state, VIADUCTLE_WORDS, buffer, sizeof buffer);
     if (taken.number != VIADUCTLE_ACCEPTED) {
         show_refusal("message", taken);

@@ -81,8 +81,14 @@ pub(crate) const MAX_SD_OPTIONS: usize = 347;
 pub(crate) const MAX_LIMIT: u32 = 65_520;
 /// The ranges that a stream's state has room for.
 pub(crate) const MAX_RANGES: usize = 64;
-/// The words of a stream's state: limit, count of ranges, whether an end is known, the end, then start and end of each range.
-pub(crate) const WORDS: usize = 4 + 2 * MAX_RANGES;
+/// The last number that a segment can have.
+pub(crate) const LAST_NUMBER: u32 = 4_294_967_295;
+/// The words before the ranges: limit, how many ranges, whether an end is known, the end, how many segments were accepted.
+pub(crate) const FRONT_WORDS: usize = 5;
+/// The words of one range: start, end, number.
+pub(crate) const RANGE_WORDS: usize = 3;
+/// The words of a stream's state.
+pub(crate) const WORDS: usize = FRONT_WORDS + RANGE_WORDS * MAX_RANGES;
 
 mod hub {
     use super::{Answer, Entry, Opt, Places};
@@ -156,6 +162,8 @@ mod hub {
             room: usize,
         ) -> Answer;
         pub fn viaductle_clear(words: *mut u32, len: usize) -> Answer;
+        pub fn viaductle_count(words: *const u32, len: usize) -> Answer;
+        pub fn viaductle_range(words: *const u32, len: usize, from: u32) -> Answer;
     }
 }
 
@@ -262,4 +270,12 @@ pub(crate) fn take(state: &[u32; WORDS], buffer: &mut [u8]) -> Answer {
 
 pub(crate) fn clear(state: &mut [u32; WORDS]) -> Answer {
     unsafe { hub::viaductle_clear(state.as_mut_ptr(), WORDS) }
+}
+
+pub(crate) fn count(state: &[u32; WORDS]) -> Answer {
+    unsafe { hub::viaductle_count(state.as_ptr(), WORDS) }
+}
+
+pub(crate) fn range(state: &[u32; WORDS], from: u32) -> Answer {
+    unsafe { hub::viaductle_range(state.as_ptr(), WORDS, from) }
 }

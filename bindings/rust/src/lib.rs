@@ -47,7 +47,9 @@ pub use message::SomeipMsgSlice;
 pub use refusal::{
     LenSource, Place, Refusal, SdConfigurationStringError, Values, MAX_REFUSAL_VALUES,
 };
-pub use tp::{TpBuf, TpRange, TpStream, MAX_TP_PAYLOAD_LEN, MAX_TP_RANGES, TP_STREAM_WORDS};
+pub use tp::{
+    TpBuf, TpRange, TpStream, MAX_TP_NUMBER, MAX_TP_PAYLOAD_LEN, MAX_TP_RANGES, TP_STREAM_WORDS,
+};
 
 /// The examples of the README and of docs/MOVING.md, run with the others.
 #[cfg(doctest)]

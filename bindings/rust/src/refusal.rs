@@ -1,6 +1,6 @@
 //! What is refused: the rules' number, its values, and a text for the person who reads the log.
 
-use crate::ffi::{Answer, MAX_LIMIT, MAX_RANGES, MAX_SD_OPTIONS, VALUES};
+use crate::ffi::{Answer, LAST_NUMBER, MAX_LIMIT, MAX_RANGES, MAX_SD_OPTIONS, VALUES};
 use core::fmt;
 
 /// Why something was refused. Variants and fields have someip_parse's names where it has them; [`number`](Refusal::number) and
@@ -121,6 +121,8 @@ pub enum Refusal {
     NotComplete,
     /// 38: the words are no state of a stream.
     MalformedState,
+    /// 39: no number is left for a further segment, until the stream is cleared.
+    CountFull,
     /// A number that this crate does not know: the library is newer than it.
     #[allow(missing_docs)]
     Other {
@@ -421,6 +423,7 @@ impl Refusal {
             LimitTooLarge(limit) => said(36, [limit.into()]),
             NotComplete => said(37, []),
             MalformedState => said(38, []),
+            CountFull => said(39, []),
             Other { number, values } => said(number, values),
         }
     }
@@ -505,6 +508,7 @@ impl Refusal {
             36 => LimitTooLarge(first as u32),
             37 => NotComplete,
             38 => MalformedState,
+            39 => CountFull,
             _ => Other { number, values },
         };
         // Nothing was lost: another width, or a value that the rules have not, would show here.
@@ -723,6 +727,10 @@ impl fmt::Display for Refusal {
             MalformedState => write!(
                 f,
                 "these words are no state of a stream: they come from elsewhere, or were changed; begin the stream anew"
+            ),
+            CountFull => write!(
+                f,
+                "{LAST_NUMBER} segments were taken since the stream was begun or cleared, and no number is left: clear it"
             ),
             Other { values, .. } => write!(
                 f,

@@ -10,20 +10,27 @@ pub const MAX_TP_PAYLOAD_LEN: u32 = ffi::MAX_LIMIT;
 /// How many ranges a stream holds at most: parts of the report that have arrived, with gaps between them.
 pub const MAX_TP_RANGES: usize = ffi::MAX_RANGES;
 
-/// The words of a stream's state: four, and two for each of [`MAX_TP_RANGES`] ranges.
+/// The last number that an accepted segment can have: see [`TpStream::count`].
+pub const MAX_TP_NUMBER: u32 = ffi::LAST_NUMBER;
+
+/// The words of a stream's state: five, and three for each of [`MAX_TP_RANGES`] ranges.
 pub const TP_STREAM_WORDS: usize = ffi::WORDS;
 
-/// A part of the report that has arrived: offsets into its payload, the end not included.
+/// A part of the report that has arrived: offsets into its payload, the end not included, and the number of the latest accepted segment in it.
+///
+/// Segments are numbered as they are accepted, from 1 on, since the stream was begun or cleared; no clock is asked. So of two ranges the one with the
+/// larger number has the newer segment, and no two have the same.
 #[derive(Clone, Copy, PartialEq, Eq, PartialOrd, Ord, Hash)]
 #[allow(missing_docs)]
 pub struct TpRange {
     pub start: u32,
     pub end: u32,
+    pub number: u32,
 }
 
 impl fmt::Debug for TpRange {
     fn fmt(&self, f: &mut fmt::Formatter<'_>) -> fmt::Result {
-        write!(f, "{}..{}", self.start, self.end)
+        write!(f, "{}..{} #{}", self.start, self.end, self.number)
     }
 }
 
@@ -35,7 +42,7 @@ impl fmt::Debug for TpRange {
 ///
 /// ```
 /// let stream = viaductle::TpStream::new(1024)?;
-/// assert_eq!(format!("{stream:?}"), "TpStream { limit: 1024, end: None, ranges: [] }");
+/// assert_eq!(format!("{stream:?}"), "TpStream { limit: 1024, end: None, count: 0, ranges: [] }");
 /// # Ok::<(), viaductle::Refusal>(())
 /// ```
 #[derive(Clone, Copy)]
@@ -51,8 +58,8 @@ impl TpStream {
         Ok(TpStream { words })
     }
 
-    /// The stream of these words, which are not judged here: limit, count of ranges, 1 if an end is known and else 0, the end, then start and
-    /// end of each of [`MAX_TP_RANGES`] ranges.
+    /// The stream of these words, which are not judged here: limit, how many ranges are held, 1 if an end is known and else 0, the end, how many
+    /// segments were accepted, then start, end and number of each of [`MAX_TP_RANGES`] ranges.
     pub fn from_words(words: [u32; TP_STREAM_WORDS]) -> Self {
         TpStream { words }
     }
@@ -62,8 +69,8 @@ impl TpStream {
         &self.words
     }
 
-    /// One segment, a whole message with its header, comes. Refused by 38, 30, 31, 32, 33, 34 and 35, in this order; a refusal leaves stream
-    /// and buffer as they were.
+    /// One segment, a whole message with its header, comes. Refused by 38, 30, 31, 32, 33, 34, 35 and 39, in this order; a refusal leaves
+    /// stream and buffer as they were.
     ///
     /// That all segments of a stream have one sender, message id and request id is the caller's care, as with someip_parse.
     pub fn consume_tp(&mut self, segment: &[u8], buffer: &mut [u8]) -> Result<(), Refusal> {
@@ -82,7 +89,7 @@ impl TpStream {
         SomeipMsgSlice::of(&buffer[..len as usize]).ok_or(Refusal::NotComplete)
     }
 
-    /// Forgets ranges and end, keeps the limit, touches no byte of a buffer.
+    /// Forgets ranges, end and count, keeps the limit, touches no byte of a buffer.
     ///
     /// Words that do not even tell whether an end is known stay as they are, and are refused by 38 as before; only
     /// [`from_words`](Self::from_words) makes a stream of such.
@@ -101,18 +108,34 @@ impl TpStream {
         (self.words[2] != 0).then_some(self.words[3])
     }
 
-    /// What has arrived. The order says nothing.
+    /// How many segments were accepted since the stream was begun or cleared, refused ones left out; 38 where the words are no state of a stream.
+    ///
+    /// An accepted segment has the count after it as its number. At [`MAX_TP_NUMBER`] a further one is refused by 39 until the stream is cleared.
+    pub fn count(&self) -> Result<u32, Refusal> {
+        let [count, ..] = ffi::count(&self.words).accepted()?;
+        Ok(count as u32)
+    }
+
+    /// Of the ranges that begin at `from` or behind it the one that begins first; 38 where the words are no state of a stream, 20 where there is none.
+    pub fn range_from(&self, from: u32) -> Result<TpRange, Refusal> {
+        let [start, end, number, ..] = ffi::range(&self.words, from).accepted()?;
+        Ok(TpRange {
+            start: start as u32,
+            end: end as u32,
+            number: number as u32,
+        })
+    }
+
+    /// What has arrived, in the order of the report, each part with its number; nothing where the words are no state of a stream.
     pub fn ranges(&self) -> impl Iterator<Item = TpRange> + '_ {
-        let range = |pair: &[u32]| TpRange {
-            start: pair[0],
-            end: pair[1],
-        };
-        self.counted()[4..].chunks(2).map(range)
+        let next = |last: &TpRange| self.range_from(last.end + 1).ok();
+        core::iter::successors(self.range_from(0).ok(), next)
     }
 
     /// The words that count: places that hold no range are left out.
     fn counted(&self) -> &[u32] {
-        &self.words[..4 + 2 * ffi::MAX_RANGES.min(self.words[1] as usize)]
+        let ranges = ffi::MAX_RANGES.min(self.words[1] as usize);
+        &self.words[..ffi::FRONT_WORDS + ffi::RANGE_WORDS * ranges]
     }
 }
 
@@ -133,13 +156,14 @@ impl Hash for TpStream {
 impl fmt::Debug for TpStream {
     fn fmt(&self, f: &mut fmt::Formatter<'_>) -> fmt::Result {
         let mut shown = f.debug_struct("TpStream");
-        if self.words[1] as usize > ffi::MAX_RANGES || self.words[2] > 1 {
-            let words = format_args!("no state of a stream, {:?} ..", &self.words[..4]);
+        let Ok(count) = self.count() else {
+            let words = format_args!("no state of a stream, {:?}", self.counted());
             return shown.field("words", &words).finish();
-        }
+        };
         shown
             .field("limit", &self.limit())
             .field("end", &self.end())
+            .field("count", &count)
             .field("ranges", &Ranges(self))
             .finish()
     }
@@ -206,7 +230,7 @@ impl<'b> TpBuf<'b> {
         TpBuf { stream, buffer }
     }
 
-    /// The stream's state: limit, end and ranges.
+    /// The stream's state: limit, end, count and ranges.
     pub fn stream(&self) -> &TpStream {
         &self.stream
     }

@@ -246,7 +246,7 @@ fn declared_as_in_the_source() {
         return;
     };
     let exported = functions(&source, "pub extern \"C\" fn ");
-    assert_eq!(exported.len(), 17, "{exported:#?}");
+    assert_eq!(exported.len(), 19, "{exported:#?}");
     assert_eq!(functions(&ffi(), "pub fn "), exported);
 }
 
@@ -271,6 +271,9 @@ fn the_constants_are_the_same() {
         ("MAX_SD_OPTIONS", "SLOTS", "sd_index", "SLOTS"),
         ("MAX_LIMIT", "MAX_LIMIT", "tp_stream", "MAX_LIMIT"),
         ("MAX_RANGES", "MAX_RANGES", "tp_range", "MAX_RANGES"),
+        ("LAST_NUMBER", "LAST_NUMBER", "tp_stream", "LAST_NUMBER"),
+        ("FRONT_WORDS", "FRONT_WORDS", "tp_words", "FRONT_WORDS"),
+        ("RANGE_WORDS", "RANGE_WORDS", "tp_words", "RANGE_WORDS"),
     ] {
         let value = constant(&ffi, here);
         assert_eq!(value, number(defined(&header, in_c)), "{in_c}");
@@ -280,7 +283,10 @@ fn the_constants_are_the_same() {
     let words = said(&ffi, "WORDS");
     let source = repository("crates/tp_words/src").unwrap();
     assert_eq!(words, said(&source, "WORDS"));
-    let in_c = words.replace("MAX_RANGES", "VIADUCTLE_MAX_RANGES");
+    let named = ["FRONT_WORDS", "RANGE_WORDS", "MAX_RANGES"];
+    let in_c = named.iter().fold(words.to_string(), |text, name| {
+        text.replace(name, &format!("VIADUCTLE_{name}"))
+    });
     assert_eq!(defined(&header, "WORDS"), format!("({in_c})"));
 
     let version = env!("CARGO_PKG_VERSION");

@@ -310,7 +310,7 @@ fn r23_protocols() {
 }
 
 #[test]
-fn r30_to_r38_streams() {
+fn r30_to_r39_streams() {
     let mut buffer = [0; 16 + 4096];
     let mut stream = TpBuf::new(1024, &mut buffer[..16 + 512]).unwrap();
     let not_one = "not one TP segment: under 20 bytes, or a length field that is not the byte count less 8, or a protocol version other than 1, or no TP message type";
@@ -389,6 +389,16 @@ fn r30_to_r38_streams() {
         38,
         &[],
         "these words are no state of a stream: they come from elsewhere, or were changed; begin the stream anew",
+    );
+    let mut words = *TpStream::new(64).unwrap().words();
+    words[4] = u32::MAX;
+    is(
+        TpStream::from_words(words)
+            .consume_tp(&good, &mut buffer)
+            .unwrap_err(),
+        39,
+        &[],
+        "4294967295 segments were taken since the stream was begun or cleared, and no number is left: clear it",
     );
 }
 

@@ -431,7 +431,7 @@ fn an_end_behind_the_data() {
 
     // The end that is known is told before how far the data reaches: a state that no run comes to.
     let mut words = [0; TP_STREAM_WORDS];
-    words[..6].copy_from_slice(&[64, 1, 1, 64, 0, 32]);
+    words[..8].copy_from_slice(&[64, 1, 1, 64, 1, 0, 32, 1]);
     let mut stream = TpStream::from_words(words);
     let known = Refusal::ConflictingEnd {
         previous_end: 64,

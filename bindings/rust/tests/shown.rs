@@ -94,18 +94,19 @@ fn a_stream() {
     stream.consume_tp(&segment(48, false, &[0; 16])).unwrap();
     stream.consume_tp(&segment(0, true, &[0; 16])).unwrap();
     let shown = format!("{:?}", stream.stream());
-    let either = [
-        "TpStream { limit: 64, end: Some(64), ranges: [0..16, 48..64] }",
-        "TpStream { limit: 64, end: Some(64), ranges: [48..64, 0..16] }",
-    ];
-    assert!(either.contains(&&shown[..]), "{shown}");
+    assert_eq!(
+        shown,
+        "TpStream { limit: 64, end: Some(64), count: 2, ranges: [0..16 #2, 48..64 #1] }"
+    );
     assert_eq!(
         format!("{stream:?}"),
         format!("TpBuf {{ stream: {shown}, buffer: 80 bytes }}")
     );
+    let mut words = [9; TP_STREAM_WORDS];
+    words[..8].copy_from_slice(&[64, 1, 1, 16, 1, 0, 32, 1]);
     assert_eq!(
-        format!("{:?}", TpStream::from_words([9; TP_STREAM_WORDS])),
-        "TpStream { words: no state of a stream, [9, 9, 9, 9] .. }"
+        format!("{:?}", TpStream::from_words(words)),
+        "TpStream { words: no state of a stream, [64, 1, 1, 16, 1, 0, 32, 1] }"
     );
 }
 

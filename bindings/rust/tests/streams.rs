@@ -1,8 +1,14 @@
-//! Streams: order, overlaps, gaps, refusals that change nothing, malformed states.
+//! Streams: order, overlaps, gaps, numbers of arrival, refusals that change nothing, malformed states.
 
 mod common;
 use common::*;
-use viaductle::{Refusal, TpBuf, TpRange, TpStream, MAX_TP_RANGES, TP_STREAM_WORDS};
+use viaductle::{Refusal, TpBuf, TpRange, TpStream, MAX_TP_NUMBER, MAX_TP_RANGES, TP_STREAM_WORDS};
+
+/// Start, end and number of each range, as they are told.
+fn held(stream: &TpStream) -> Vec<(u32, u32, u32)> {
+    let fields = |range: TpRange| (range.start, range.end, range.number);
+    stream.ranges().map(fields).collect()
+}
 
 #[test]
 fn a_report_in_any_order() {
@@ -20,8 +26,7 @@ fn a_report_in_any_order() {
                 .unwrap();
         }
         assert_eq!(stream.stream().end(), Some(100));
-        let whole = TpRange { start: 0, end: 100 };
-        assert_eq!(stream.stream().ranges().collect::<Vec<_>>(), [whole]);
+        assert_eq!(held(stream.stream()), [(0, 100, 4)]);
         let taken = stream.take().unwrap();
         assert_eq!(taken.payload(), report);
         assert_eq!(
@@ -38,7 +43,10 @@ fn a_report_in_any_order() {
             (stream.stream().limit(), stream.stream().end()),
             (128, None)
         );
-        assert_eq!(stream.stream().ranges().count(), 0);
+        assert_eq!(
+            (stream.stream().count(), held(stream.stream())),
+            (Ok(0), vec![])
+        );
         assert_eq!(buffer[116..], [0xee; 28], "the caller's bytes stay");
     }
 }
@@ -136,25 +144,117 @@ fn a_stream_kept_apart_from_its_buffer() {
     assert_eq!(stream.take(&mut buffer).unwrap().payload().len(), 24);
 }
 
+/// Each accepted segment has the next number, and a range has that of the latest in it, whatever order they come in.
+#[test]
+fn numbers_of_arrival() {
+    let mut buffer = [0; 16 + 128];
+    let mut stream = TpBuf::new(128, &mut buffer).unwrap();
+    let mut comes = |offset, length: usize, due: &[(u32, u32, u32)]| {
+        let came = stream.consume_tp(&segment(offset, true, &vec![1; length]));
+        assert_eq!(held(stream.stream()), due);
+        (came.is_ok(), stream.stream().count().unwrap())
+    };
+    assert_eq!(comes(64, 16, &[(64, 80, 1)]), (true, 1));
+    assert_eq!(comes(0, 16, &[(0, 16, 2), (64, 80, 1)]), (true, 2));
+    // One that was there already, one of no byte, and a refused one.
+    assert_eq!(comes(64, 16, &[(0, 16, 2), (64, 80, 3)]), (true, 3));
+    assert_eq!(comes(16, 0, &[(0, 16, 4), (64, 80, 3)]), (true, 4));
+    assert_eq!(comes(16, 15, &[(0, 16, 4), (64, 80, 3)]), (false, 4));
+    // Joined to one, and then to two at once.
+    assert_eq!(comes(16, 16, &[(0, 32, 5), (64, 80, 3)]), (true, 5));
+    assert_eq!(comes(32, 32, &[(0, 80, 6)]), (true, 6));
+    stream.consume_tp(&segment(80, false, &[2; 4])).unwrap();
+    assert!(stream.try_finalize().is_some(), "taking changes neither");
+    assert_eq!(
+        (stream.stream().count(), held(stream.stream())),
+        (Ok(7), vec![(0, 84, 7)])
+    );
+    let shown = "TpStream { limit: 128, end: Some(84), count: 7, ranges: [0..84 #7] }";
+    assert_eq!(format!("{:?}", stream.stream()), shown);
+    stream.clear();
+    stream.consume_tp(&segment(32, true, &[1; 16])).unwrap();
+    assert_eq!(
+        (stream.stream().count(), held(stream.stream())),
+        (Ok(1), vec![(32, 48, 1)])
+    );
+}
+
+/// Asked by where they begin: at a place, behind it, and where there is none.
+#[test]
+fn a_range_by_where_it_begins() {
+    let mut buffer = [0; 16 + 128];
+    let mut stream = TpStream::new(128).unwrap();
+    assert_eq!(stream.range_from(0), Err(Refusal::NothingThere));
+    for offset in [64, 0] {
+        stream
+            .consume_tp(&segment(offset, true, &[1; 16]), &mut buffer)
+            .unwrap();
+    }
+    let begins = |from| stream.range_from(from).map(|range| range.start);
+    assert_eq!([begins(0), begins(1), begins(64)], [Ok(0), Ok(64), Ok(64)]);
+    assert_eq!(begins(65), Err(Refusal::NothingThere));
+    assert_eq!(begins(u32::MAX), Err(Refusal::NothingThere));
+}
+
+/// The last number is given; then 39, until the stream is cleared, and 35 comes before it.
+#[test]
+fn no_number_is_left() {
+    let mut buffer = [0; 16 + 128];
+    let mut words = *TpStream::new(128).unwrap().words();
+    words[4] = MAX_TP_NUMBER - 1;
+    let mut stream = TpStream::from_words(words);
+    let next = segment(16, true, &[1; 16]);
+    stream.consume_tp(&next, &mut buffer).unwrap();
+    assert_eq!(held(&stream), [(16, 32, MAX_TP_NUMBER)]);
+    let kept = *stream.words();
+    for bytes in [next.clone(), segment(64, false, &[1; 16])] {
+        assert_eq!(
+            stream.consume_tp(&bytes, &mut buffer),
+            Err(Refusal::CountFull)
+        );
+        assert_eq!(*stream.words(), kept);
+    }
+    stream.clear();
+    stream.consume_tp(&next, &mut buffer).unwrap();
+    assert_eq!(held(&stream), [(16, 32, 1)]);
+
+    let mut buffer = vec![0; 16 + 4096];
+    let mut full = TpStream::new(4096).unwrap();
+    for place in 0..64 {
+        full.consume_tp(&segment(32 * place, true, &[0; 16]), &mut buffer)
+            .unwrap();
+    }
+    let mut words = *full.words();
+    words[4] = MAX_TP_NUMBER;
+    let mut full = TpStream::from_words(words);
+    let mut comes = |offset| full.consume_tp(&segment(offset, true, &[0; 16]), &mut buffer);
+    assert_eq!(comes(2048), Err(Refusal::RangesFull));
+    assert_eq!(comes(16), Err(Refusal::CountFull));
+}
+
 #[test]
 fn malformed_states_are_refused_everywhere() {
-    let state = |limit, count, has_end, end, ranges: &[u32]| {
+    // Ranges of start, end and number; five segments were accepted.
+    let state = |limit, count, has_end, end, ranges: &[[u32; 3]]| {
         let mut words = [0; TP_STREAM_WORDS];
-        words[..4].copy_from_slice(&[limit, count, has_end, end]);
-        words[4..4 + ranges.len()].copy_from_slice(ranges);
+        words[..5].copy_from_slice(&[limit, count, has_end, end, 5]);
+        let ranges = ranges.concat();
+        words[5..5 + ranges.len()].copy_from_slice(&ranges);
         words
     };
-    let good = state(64, 2, 1, 64, &[0, 16, 32, 48]);
+    let good = state(64, 2, 1, 64, &[[0, 16, 1], [32, 48, 5]]);
     let bad = [
         state(65_521, 0, 0, 0, &[]),
         state(64, MAX_TP_RANGES as u32 + 1, 0, 0, &[]),
         state(64, u32::MAX, 0, 0, &[]),
-        state(64, 1, 0, 0, &[32, 16]),
-        state(64, 1, 0, 0, &[0, 80]),
-        state(64, 1, 1, 31, &[0, 32]),
-        state(64, 2, 0, 0, &[0, 16, 16, 32]),
-        state(64, 1, 1, 65, &[0, 64]),
-        state(64, 1, 2, 64, &[0, 64]),
+        state(64, 1, 0, 0, &[[32, 16, 1]]),
+        state(64, 1, 0, 0, &[[0, 80, 1]]),
+        state(64, 1, 1, 31, &[[0, 32, 1]]),
+        state(64, 2, 0, 0, &[[0, 16, 1], [16, 32, 2]]),
+        state(64, 1, 0, 0, &[[0, 16, 0]]),
+        state(64, 1, 0, 0, &[[0, 16, 6]]),
+        state(64, 1, 1, 65, &[[0, 64, 1]]),
+        state(64, 1, 2, 64, &[[0, 64, 1]]),
         [u32::MAX; TP_STREAM_WORDS],
     ];
     let mut buffer = [0; 80];
@@ -175,13 +275,17 @@ fn malformed_states_are_refused_everywhere() {
         );
         assert_eq!(stream.take(&mut buffer), Err(Refusal::MalformedState));
         assert!(!stream.is_complete());
-        assert!(stream.ranges().count() <= MAX_TP_RANGES);
+        assert_eq!(stream.count(), Err(Refusal::MalformedState));
+        assert_eq!(stream.range_from(0), Err(Refusal::MalformedState));
+        assert_eq!(stream.ranges().count(), 0);
+        let shown = format!("{stream:?}");
+        assert!(shown.contains("no state of a stream"), "{shown}");
         assert_eq!((*stream.words(), buffer), (words, [0xee; 80]));
-        // Clearing mends ranges and end, leaves the pairs, and leaves words alone that hold no stream.
+        // Clearing mends ranges, end and count, leaves the ranges' words, and leaves words alone that hold no stream.
         stream.clear();
         let mut cleared = words;
         if words[2] <= 1 {
-            cleared[1..4].fill(0);
+            cleared[1..5].fill(0);
         }
         assert_eq!(*stream.words(), cleared);
     }

@@ -216,6 +216,7 @@ fn bin_show_says_the_same() {
         (LimitTooLarge(4001), one),
         (NotComplete, &[]),
         (MalformedState, &[]),
+        (CountFull, &[]),
     ]
     .map(|(refusal, values): (Refusal, &[u64])| said(refusal, values));
     let found: Vec<String> = arms(&source, "Refusal")
