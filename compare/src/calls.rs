@@ -32,7 +32,7 @@ impl Answer {
     /// How many values the rules give with this number (nothing is said of 0, which differs by call).
     pub fn value_count(self) -> usize {
         match self.number {
-            16 | 20 | 21 | 30 | 35 | 37 | 38 => 0,
+            16 | 20 | 21 | 30 | 35 | 37 | 38 | 39 => 0,
             1..=5 | 8 | 11 | 13..=15 | 17..=19 | 22 | 34 | 36 => 1,
             6 | 10 | 23 | 32 | 33 => 2,
             31 => 3,
@@ -61,7 +61,7 @@ impl Answer {
     }
 }
 
-/// No option or entry at this place.
+/// No option, entry or range at this place.
 pub const NOTHING: Answer = Answer {
     number: 20,
     values: [0; VALUES],
@@ -177,8 +177,14 @@ impl fmt::Display for Settings {
 pub const SLOTS: usize = 347;
 /// How many ranges a stream holds at most; runs are equal as far as the crate holds no more.
 pub const MOST_RANGES: usize = 64;
-/// The words of a stream's state: limit, count of ranges, whether an end is known, the end, and for each range its start and end.
-pub const WORDS: usize = 4 + 2 * MOST_RANGES;
+/// The words before the ranges of a stream's state: limit, how many ranges, whether an end is known, the end, how many segments were accepted.
+pub const FRONT_WORDS: usize = 5;
+/// Those of one range: start, end, number.
+pub const RANGE_WORDS: usize = 3;
+/// The words of a stream's state.
+pub const WORDS: usize = FRONT_WORDS + RANGE_WORDS * MOST_RANGES;
+/// The last number that a segment can have.
+pub const LAST_NUMBER: u32 = u32::MAX;
 pub const MOST_LIMIT: u32 = 65_520;
 
 /// One method for each exported function.
@@ -207,4 +213,24 @@ pub trait Calls: Sync {
     fn complete(&self, state: &[u32]) -> Answer;
     fn take(&self, state: &[u32], buffer: &mut [u8]) -> Answer;
     fn clear(&self, state: &mut [u32]) -> Answer;
+    fn count(&self, state: &[u32]) -> Answer;
+    fn range(&self, state: &[u32], from: u32) -> Answer;
+}
+
+/// The range at a place of a state's words: start, end, number.
+pub fn range_at(state: &[u32], place: usize) -> [u32; RANGE_WORDS] {
+    let at = FRONT_WORDS + RANGE_WORDS * place;
+    [state[at], state[at + 1], state[at + 2]]
+}
+
+/// Writes a range at a place.
+pub fn put_range(state: &mut [u32], place: usize, range: [u32; RANGE_WORDS]) {
+    let at = FRONT_WORDS + RANGE_WORDS * place;
+    state[at..at + RANGE_WORDS].copy_from_slice(&range);
+}
+
+/// The ranges that a state holds, in the order of its words.
+pub fn ranges_of(state: &[u32]) -> impl Iterator<Item = [u32; RANGE_WORDS]> + '_ {
+    let held = (state[1] as usize).min(MOST_RANGES);
+    (0..held).map(|place| range_at(state, place))
 }

@@ -4,6 +4,7 @@
 #![cfg_attr(not(feature = "port"), allow(dead_code))]
 
 #[cfg(any(feature = "port", test))]
+mod arrivals;
 mod bench;
 mod calls;
 mod ends;

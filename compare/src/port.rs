@@ -61,6 +61,8 @@ extern "C" {
     fn viaductle_complete(state: *const u32, words: usize) -> Answer;
     fn viaductle_take(state: *const u32, words: usize, buffer: *mut u8, room: usize) -> Answer;
     fn viaductle_clear(state: *mut u32, words: usize) -> Answer;
+    fn viaductle_count(state: *const u32, words: usize) -> Answer;
+    fn viaductle_range(state: *const u32, words: usize, from: u32) -> Answer;
 }
 
 /// The library itself.
@@ -198,5 +200,13 @@ impl Calls for Hub {
 
     fn clear(&self, state: &mut [u32]) -> Answer {
         unsafe { viaductle_clear(state.as_mut_ptr(), state.len()) }
+    }
+
+    fn count(&self, state: &[u32]) -> Answer {
+        unsafe { viaductle_count(state.as_ptr(), state.len()) }
+    }
+
+    fn range(&self, state: &[u32], from: u32) -> Answer {
+        unsafe { viaductle_range(state.as_ptr(), state.len(), from) }
     }
 }

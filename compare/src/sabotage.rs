@@ -61,8 +61,18 @@ pub enum Fault {
     EndAtTheDataRefused,
     RangePastEndTaken,
     ClearKeepsEnd,
-    ClearWipesPairs,
+    ClearWipesRanges,
     NoStreamCleared,
+    SmallerNumberKept,
+    RefusedCounted,
+    EmptyNotCounted,
+    ClearKeepsCount,
+    LastNumberGivenAgain,
+    CountFullBeforeRangesFull,
+    NumberZeroTaken,
+    NumberPastCountTaken,
+    RangesToldAsHeld,
+    RangesCounted,
 }
 
 use Fault::*;
@@ -110,7 +120,7 @@ const SERVICE_DISCOVERY: [Fault; 40] = [
     TableLeftAfterProtocol,
     InputDamaged,
 ];
-const STREAMS: [Fault; 16] = [
+const STREAMS: [Fault; 26] = [
     SegmentSwallowed,
     FirstBytesWin,
     EndIgnored,
@@ -125,8 +135,18 @@ const STREAMS: [Fault; 16] = [
     EndAtTheDataRefused,
     RangePastEndTaken,
     ClearKeepsEnd,
-    ClearWipesPairs,
+    ClearWipesRanges,
     NoStreamCleared,
+    SmallerNumberKept,
+    RefusedCounted,
+    EmptyNotCounted,
+    ClearKeepsCount,
+    LastNumberGivenAgain,
+    CountFullBeforeRangesFull,
+    NumberZeroTaken,
+    NumberPastCountTaken,
+    RangesToldAsHeld,
+    RangesCounted,
 ];
 
 /// A port with one fault.
@@ -144,13 +164,19 @@ fn move_place(answer: &mut Answer, by: i64) {
 
 /// The greatest end of the ranges that a state holds.
 fn furthest(state: &[u32]) -> Option<u32> {
-    let held = (state[1] as usize).min(MOST_RANGES);
-    (0..held).map(|range| state[5 + 2 * range]).max()
+    ranges_of(state).map(|[_, end, _]| end).max()
 }
 
 /// Whether it is past the known end, nothing else being wrong with the one range that is held.
 fn past_end(state: &[u32]) -> bool {
-    state.len() == WORDS && state[1..3] == [1, 1] && state[3] < state[5] && state[5] <= state[0]
+    let [_, end, _] = range_at(state, 0);
+    state.len() == WORDS && state[1..3] == [1, 1] && state[3] < end && end <= state[0]
+}
+
+/// The number of the one range that is held, where it is at 0.
+fn number_at_zero(state: &[u32]) -> Option<u32> {
+    let [start, end, number] = range_at(state, 0);
+    (state.len() == WORDS && state[1] == 1 && (start, end) == (0, 0)).then_some(number)
 }
 
 impl<P: Calls> Faulty<'_, P> {
@@ -421,6 +447,12 @@ impl<P: Calls> Calls for Faulty<'_, P> {
         if self.is(RangePastEndTaken) && past_end(state) {
             return Answer::default();
         }
+        if self.is(NumberZeroTaken) && number_at_zero(state) == Some(0)
+            || self.is(NumberPastCountTaken)
+                && number_at_zero(state).is_some_and(|number| number > state[4])
+        {
+            return Answer::default();
+        }
         let mut answer = self.inner.consume(state, segment, buffer);
         match self.fault {
             // No end is known before, so that 33 is for the data held.
@@ -446,13 +478,34 @@ impl<P: Calls> Calls for Faulty<'_, P> {
                 buffer.copy_from_slice(&bytes);
             }
             FirstBytesWin if answer.accepted() => {
-                for pair in held[4..4 + 2 * held[1] as usize].chunks(2) {
-                    let (from, to) = (16 + pair[0] as usize, 16 + pair[1] as usize);
+                for [start, end, _] in ranges_of(&held) {
+                    let (from, to) = (16 + start as usize, 16 + end as usize);
                     buffer[from..to].copy_from_slice(&bytes[from..to]);
                 }
             }
             EndIgnored if answer.accepted() => state[2] = 0,
-            MadeUpRange if answer.accepted() && state[1] == 2 => state[5] += 1,
+            MadeUpRange if answer.accepted() && state[1] == 2 => {
+                let [start, end, number] = range_at(state, 0);
+                put_range(state, 0, [start, end + 1, number]);
+            }
+            // A range was joined: the newest keeps the number before.
+            SmallerNumberKept if answer.accepted() && state[1] <= held[1] => {
+                let newest = ranges_of(state).position(|[_, _, number]| number == state[4]);
+                if let Some(place) = newest {
+                    let [start, end, number] = range_at(state, place);
+                    put_range(state, place, [start, end, number - 1]);
+                }
+            }
+            RefusedCounted if !answer.accepted() && answer.number != 38 => {
+                state[4] = state[4].saturating_add(1)
+            }
+            EmptyNotCounted if answer.accepted() && segment.len() == 20 && held[1] > 0 => {
+                state.copy_from_slice(&held)
+            }
+            LastNumberGivenAgain if answer.number == 39 => return Answer::default(),
+            CountFullBeforeRangesFull if answer.number == 35 && held[4] == LAST_NUMBER => {
+                return Answer::new(39, &[])
+            }
             FlagLeftInHeader
                 if answer.accepted() && segment[16..19] == [0; 3] && segment[19] < 16 =>
             {
@@ -489,15 +542,34 @@ impl<P: Calls> Calls for Faulty<'_, P> {
     }
 
     fn clear(&self, state: &mut [u32]) -> Answer {
-        let known = state[2];
+        let (known, accepted) = (state[2], state[4]);
         if self.is(NoStreamCleared) {
             state[2] = 0;
         }
         let answer = self.inner.clear(state);
         match self.fault {
             ClearKeepsEnd => state[2] = known,
-            ClearWipesPairs => state[4..].fill(0),
+            ClearWipesRanges => state[FRONT_WORDS..].fill(0),
+            ClearKeepsCount => state[4] = accepted,
             _ => {}
+        }
+        answer
+    }
+
+    fn count(&self, state: &[u32]) -> Answer {
+        let mut answer = self.inner.count(state);
+        if self.is(RangesCounted) && answer.accepted() {
+            answer.values[0] = state[1].into();
+        }
+        answer
+    }
+
+    fn range(&self, state: &[u32], from: u32) -> Answer {
+        let mut answer = self.inner.range(state, from);
+        if self.is(RangesToldAsHeld) && answer.accepted() {
+            let behind = ranges_of(state).find(|[start, _, _]| *start >= from);
+            let range = behind.expect("one is told").map(u64::from);
+            answer.values[..RANGE_WORDS].copy_from_slice(&range);
         }
         answer
     }

@@ -85,31 +85,38 @@ fn be32(bytes: &[u8]) -> u32 {
     u32::from_be_bytes([bytes[0], bytes[1], bytes[2], bytes[3]])
 }
 
+/// A range with its number.
+#[derive(Clone, Copy)]
+struct Held {
+    range: TpRange,
+    number: u32,
+}
+
 /// The ranges held, or `None` for a malformed state.
-fn held(state: &[u32]) -> Option<Vec<TpRange>> {
+fn held(state: &[u32]) -> Option<Vec<Held>> {
     let (limit, count) = (*state.first()?, state[1] as usize);
     if state.len() < WORDS || state[2] > 1 || limit > MOST_LIMIT || count > MOST_RANGES {
         return None;
     }
-    let ranges: Vec<TpRange> = state[4..4 + 2 * count]
-        .chunks(2)
-        .map(|pair| TpRange {
-            start: pair[0],
-            end: pair[1],
-        })
-        .collect();
+    let one = |[start, end, number]: [u32; RANGE_WORDS]| Held {
+        range: TpRange { start, end },
+        number,
+    };
+    let ranges: Vec<Held> = ranges_of(state).map(one).collect();
     let top = if state[2] != 0 { state[3] } else { limit };
-    let bad = |r: &TpRange| r.end < r.start || r.end > limit.min(top);
-    let touching = (1..count).any(|i| (0..i).any(|j| ranges[i].merge(ranges[j]).is_some()));
+    let misplaced = |r: TpRange| r.end < r.start || r.end > limit.min(top);
+    let bad = |held: &Held| misplaced(held.range) || !(1..=state[4]).contains(&held.number);
+    let touch = |a: Held, b: Held| a.range.merge(b.range).is_some();
+    let touching = (1..count).any(|i| (0..i).any(|j| touch(ranges[i], ranges[j])));
     let past = state[2] != 0 && state[3] > limit;
     (!ranges.iter().any(bad) && !touching && !past).then_some(ranges)
 }
 
-fn put(state: &mut [u32], ranges: &[TpRange]) {
+fn put(state: &mut [u32], ranges: &[Held]) {
     state[1] = ranges.len() as u32;
-    for (at, range) in ranges.iter().enumerate() {
-        state[4 + 2 * at] = range.start;
-        state[5 + 2 * at] = range.end;
+    for (place, held) in ranges.iter().enumerate() {
+        let range = [held.range.start, held.range.end, held.number];
+        put_range(state, place, range);
     }
 }
 
@@ -243,7 +250,7 @@ impl Calls for StandIn {
         if state[2] != 0 && (end > known || !more && end != known) {
             return Answer::new(33, &[known, end]);
         }
-        let furthest = ranges.iter().map(|range| u64::from(range.end)).max();
+        let furthest = ranges.iter().map(|held| u64::from(held.range.end)).max();
         if let (false, Some(furthest)) = (more, furthest.filter(|furthest| *furthest > end)) {
             return Answer::new(33, &[furthest, end]);
         }
@@ -255,16 +262,23 @@ impl Calls for StandIn {
             end: end as u32,
         };
         let mut apart = Vec::new();
-        for range in ranges {
-            match new.merge(range) {
+        for held in ranges {
+            match new.merge(held.range) {
                 Some(merged) => new = merged,
-                None => apart.push(range),
+                None => apart.push(held),
             }
         }
-        apart.push(new);
-        if apart.len() > MOST_RANGES {
+        if apart.len() == MOST_RANGES {
             return Answer::new(35, &[]);
         }
+        if state[4] == LAST_NUMBER {
+            return Answer::new(39, &[]);
+        }
+        state[4] += 1;
+        apart.push(Held {
+            range: new,
+            number: state[4],
+        });
         put(state, &apart);
         if !more {
             (state[2], state[3]) = (1, end as u32);
@@ -279,7 +293,7 @@ impl Calls for StandIn {
 
     fn complete(&self, state: &[u32]) -> Answer {
         let complete = held(state)
-            .is_some_and(|ranges| state[2] != 0 && ranges.len() == 1 && ranges[0].start == 0);
+            .is_some_and(|held| state[2] != 0 && held.len() == 1 && held[0].range.start == 0);
         Answer::new(0, &[complete.into()])
     }
 
@@ -290,11 +304,12 @@ impl Calls for StandIn {
         if self.complete(state).values[0] == 0 {
             return Answer::new(37, &[]);
         }
-        let length = 16 + u64::from(ranges[0].end);
+        let end = ranges[0].range.end;
+        let length = 16 + u64::from(end);
         if (buffer.len() as u64) < length {
             return Answer::new(34, &[length]);
         }
-        buffer[4..8].copy_from_slice(&(ranges[0].end + 8).to_be_bytes());
+        buffer[4..8].copy_from_slice(&(end + 8).to_be_bytes());
         Answer::new(0, &[length])
     }
 
@@ -302,7 +317,28 @@ impl Calls for StandIn {
         if state.len() < WORDS || state[2] > 1 {
             return Answer::new(38, &[]);
         }
-        state[1..4].fill(0);
+        state[1..FRONT_WORDS].fill(0);
         Answer::default()
+    }
+
+    fn count(&self, state: &[u32]) -> Answer {
+        match held(state) {
+            Some(_) => Answer::new(0, &[state[4].into()]),
+            None => Answer::new(38, &[]),
+        }
+    }
+
+    fn range(&self, state: &[u32], from: u32) -> Answer {
+        let Some(ranges) = held(state) else {
+            return Answer::new(38, &[]);
+        };
+        let behind = ranges.iter().filter(|held| held.range.start >= from);
+        match behind.min_by_key(|held| held.range.start) {
+            Some(held) => {
+                let TpRange { start, end } = held.range;
+                Answer::new(0, &[start.into(), end.into(), held.number.into()])
+            }
+            None => NOTHING,
+        }
     }
 }

@@ -1,6 +1,11 @@
-//! The comparison of one stream: what the port answers, holds and writes after each step, beside the crate's `TpBuf`.
+//! The comparison of one stream: what the port answers, holds and writes after each step, beside the crate's `TpBuf`; and its numbers of arrival,
+//! which the crate has not, beside a count of the comparison's own.
 
-use crate::calls::{Answer, Calls, MOST_LIMIT, MOST_RANGES, WORDS};
+use crate::arrivals::Arrivals;
+use crate::calls::{
+    put_range, ranges_of, Answer, Calls, FRONT_WORDS, LAST_NUMBER, MOST_LIMIT, MOST_RANGES,
+    NOTHING, RANGE_WORDS, WORDS,
+};
 use crate::ends;
 use crate::oracle_tp::{has_bytes_behind, Seen, Stream};
 use crate::tally::{hex, Tally};
@@ -34,24 +39,29 @@ impl Lent {
         }
     }
 
-    /// Limit, ranges in ascending order, end.
+    /// Limit, ranges in ascending order without their numbers, end.
     fn seen(&self) -> (u32, Vec<(u32, u32)>, Option<u32>) {
-        let count = (self.state[1] as usize).min(MOST_RANGES);
-        let mut ranges: Vec<(u32, u32)> = self.state[4..4 + 2 * count]
-            .chunks(2)
-            .map(|pair| (pair[0], pair[1]))
-            .collect();
+        let place = |[start, end, _]: [u32; RANGE_WORDS]| (start, end);
+        let mut ranges: Vec<(u32, u32)> = ranges_of(&self.state).map(place).collect();
         ranges.sort_unstable();
         let end = (self.state[2] != 0).then_some(self.state[3]);
         (self.state[0], ranges, end)
     }
 }
 
-/// The words after clearing: the limit, no range and no end, and the pairs as they were.
+/// The words after clearing: the limit, no range, no end and no segment accepted, and the ranges' words as they were.
 fn cleared(state: &[u32; WORDS]) -> [u32; WORDS] {
     let mut words = *state;
-    words[1..4].fill(0);
+    words[1..FRONT_WORDS].fill(0);
     words
+}
+
+/// Words that hold these ranges and no other, of segments of which so many were accepted.
+fn hold(state: &mut [u32; WORDS], accepted: u32, ranges: &[[u32; RANGE_WORDS]]) {
+    (state[1], state[4]) = (ranges.len() as u32, accepted);
+    for (place, range) in ranges.iter().enumerate() {
+        put_range(state, place, *range);
+    }
 }
 
 pub struct Tp<'a, P> {
@@ -82,16 +92,26 @@ impl<'a, P: Calls> Tp<'a, P> {
         }
         let mut lent = Lent::new(room);
         let mut stream = Stream::begin(sequence.limit);
+        let mut arrivals = Arrivals::default();
         let mut touched = Touched::default();
         let began = self.port.begin(&mut lent.state, sequence.limit);
         self.tally
             .same("begin", &Answer::default(), &began, || name(sequence, 0));
         self.state_is(&stream, &lent, &touched, sequence, 0);
+        self.numbers_are(&stream, &arrivals, &lent, sequence, 0);
         let differences = self.tally.differences;
         let mut most = 0;
         for number in 0..sequence.steps.len() {
             let due = ends::due(&behind, number);
-            let held = self.step(due, &mut stream, &mut lent, &mut touched, sequence, number);
+            let held = self.step(
+                due,
+                (&mut stream, &mut arrivals),
+                &mut lent,
+                &mut touched,
+                sequence,
+                number,
+            );
+            self.numbers_are(&stream, &arrivals, &lent, sequence, number);
             most = most.max(held);
             if self.tally.differences > differences {
                 return;
@@ -106,7 +126,7 @@ impl<'a, P: Calls> Tp<'a, P> {
     fn step(
         &mut self,
         due: Option<Answer>,
-        stream: &mut Stream,
+        (stream, arrivals): (&mut Stream, &mut Arrivals),
         lent: &mut Lent,
         touched: &mut Touched,
         sequence: &Sequence,
@@ -124,7 +144,9 @@ impl<'a, P: Calls> Tp<'a, P> {
                     .consume(&mut lent.state, segment, &mut lent.buffer);
                 self.tally
                     .same("consume", &want, &got, || name(sequence, number));
-                if !want.accepted() {
+                if want.accepted() {
+                    arrivals.add(segment);
+                } else {
                     self.tally
                         .same("state after a refusal", &held, &lent.state, || {
                             name(sequence, number)
@@ -147,6 +169,7 @@ impl<'a, P: Calls> Tp<'a, P> {
             Step::Clear => {
                 touched.add(&stream.seen(), stream.header_set);
                 stream.clear();
+                *arrivals = Arrivals::default();
                 let got = self.port.clear(&mut lent.state);
                 self.tally
                     .same("clear", &Answer::default(), &got, || name(sequence, number));
@@ -216,6 +239,41 @@ impl<'a, P: Calls> Tp<'a, P> {
         seen.ranges.len()
     }
 
+    /// The count, and the crate's ranges with the numbers that are due: in the words, and as they are told one after the other.
+    fn numbers_are(
+        &mut self,
+        stream: &Stream,
+        arrivals: &Arrivals,
+        lent: &Lent,
+        sequence: &Sequence,
+        number: usize,
+    ) {
+        let due = arrivals.numbered(&stream.seen().ranges);
+        let mut words: Vec<_> = ranges_of(&lent.state).collect();
+        words.sort_unstable();
+        let want = (arrivals.count(), &due);
+        let got = (u64::from(lent.state[4]), &words);
+        self.tally
+            .same("count and numbers in the words", &want, &got, || {
+                name(sequence, number)
+            });
+        let want = Answer::new(0, &[arrivals.count()]);
+        let got = self.port.count(&lent.state);
+        self.tally
+            .same("count", &want, &got, || name(sequence, number));
+        let mut from = 0;
+        for range in due {
+            let want = Answer::new(0, &range.map(u64::from));
+            let got = self.port.range(&lent.state, from);
+            self.tally
+                .same("range", &want, &got, || name(sequence, number));
+            from = range[1] + 1;
+        }
+        let got = self.port.range(&lent.state, from);
+        self.tally
+            .same("no range", &NOTHING, &got, || name(sequence, number));
+    }
+
     /// Under the ranges and in the header the crate's bytes; elsewhere what was there before, but for bytes that an earlier stream set.
     fn buffer_is(
         &mut self,
@@ -237,12 +295,13 @@ impl<'a, P: Calls> Tp<'a, P> {
         self.tally.same("buffer", &want, &lent.buffer, name);
     }
 
-    /// What only the rules say: 34 under a short buffer, 36, 38, and states of too few words.
+    /// What only the rules say: 34 under a short buffer, 36, 38, 39, and states of too few words.
     pub fn by_document(&mut self, sequence: &Sequence, short: usize, limit: u32) {
         let mut lent = Lent::new(short);
         let mut stream = Stream::begin(sequence.limit);
         self.port.begin(&mut lent.state, sequence.limit);
         let mut walk = ends::Walk::new(sequence.limit, short);
+        let mut arrivals = Arrivals::default();
         for (number, step) in sequence.steps.iter().enumerate() {
             let Step::Segment(segment) = step else {
                 continue;
@@ -261,6 +320,7 @@ impl<'a, P: Calls> Tp<'a, P> {
                     want = Answer::new(35, &[]);
                 }
             }
+            self.at_last_number(want, segment, &lent, sequence, number);
             let (held, bytes) = (lent.state, lent.buffer.clone());
             let got = self
                 .port
@@ -272,15 +332,73 @@ impl<'a, P: Calls> Tp<'a, P> {
                 });
             if want.accepted() {
                 stream = tried;
+                arrivals.add(segment);
             } else {
                 let (kept, same) = ((held, &bytes), (lent.state, &lent.buffer));
                 self.tally
                     .same("all as it was", &kept, &same, || name(sequence, number));
             }
         }
+        self.numbers_are(&stream, &arrivals, &lent, sequence, sequence.steps.len());
         self.take_short(&mut stream, &mut lent, sequence);
         self.begin_anyhow(limit);
+        self.full_at_last_number();
         self.malformed(&lent, sequence);
+    }
+
+    /// The same stream with one number left, and with none: what is accepted has the last number, and is then refused by 39, which comes after all
+    /// other refusals; and the words and the buffer are as they were.
+    fn at_last_number(
+        &mut self,
+        due: Answer,
+        segment: &[u8],
+        lent: &Lent,
+        sequence: &Sequence,
+        number: usize,
+    ) {
+        let mut state = lent.state;
+        state[4] = LAST_NUMBER - 1;
+        let mut buffer = lent.buffer.clone();
+        let got = self.port.consume(&mut state, segment, &mut buffer);
+        self.tally
+            .same("consume with one number left", &due, &got, || {
+                name(sequence, number)
+            });
+        let mut newest = ranges_of(&state).map(|[_, _, number]| number);
+        let given = due.accepted() && state[4] == LAST_NUMBER;
+        self.tally.same(
+            "the last number",
+            &(due.accepted(), due.accepted()),
+            &(given, newest.any(|number| number == LAST_NUMBER)),
+            || name(sequence, number),
+        );
+
+        let mut state = lent.state;
+        state[4] = LAST_NUMBER;
+        let (held, mut buffer) = (state, lent.buffer.clone());
+        let want = match due.accepted() {
+            true => Answer::new(39, &[]),
+            false => due,
+        };
+        let got = self.port.consume(&mut state, segment, &mut buffer);
+        self.tally.document(want.number);
+        self.tally
+            .same("consume with no number left", &want, &got, || {
+                name(sequence, number)
+            });
+        self.tally.same(
+            "all as it was",
+            &(held, &lent.buffer),
+            &(state, &buffer),
+            || name(sequence, number),
+        );
+        let got = self.port.clear(&mut state);
+        self.tally.same(
+            "cleared at the last number",
+            &(Answer::default(), cleared(&held)),
+            &(got, state),
+            || name(sequence, number),
+        );
     }
 
     /// Taking the message with a buffer one byte shorter than it is: 34, unless it is not complete.
@@ -303,6 +421,26 @@ impl<'a, P: Calls> Tp<'a, P> {
             });
     }
 
+    /// No place for a range more and no number left: 35; and 39 to a segment that joins ranges.
+    fn full_at_last_number(&mut self) {
+        let mut lent = Lent::new(16 + 64);
+        self.port.begin(&mut lent.state, 64);
+        let empty: Vec<_> = (0..MOST_RANGES as u32).map(|at| [at, at, 1]).collect();
+        hold(&mut lent.state, LAST_NUMBER, &empty);
+        for (offset, length, due) in [(64, 0, 35), (48, 16, 39)] {
+            let segment = crate::tp_inputs::segment(offset, true, &vec![7; length]);
+            let mut state = lent.state;
+            let got = self.port.consume(&mut state, &segment, &mut lent.buffer);
+            self.tally.document(due);
+            self.tally.same(
+                "consume with no place and no number left",
+                &(Answer::new(due, &[]), lent.state),
+                &(got, state),
+                || hex(&segment),
+            );
+        }
+    }
+
     /// Beginning under any limit: 36 above 65,520, and the state then has limit 0; no range and no end either way.
     fn begin_anyhow(&mut self, limit: u32) {
         let mut lent = Lent::new(0);
@@ -323,24 +461,23 @@ impl<'a, P: Calls> Tp<'a, P> {
     /// The state damaged in each way that the rules list: 38, nothing written; and too few words.
     fn malformed(&mut self, lent: &Lent, sequence: &Sequence) {
         let limit = lent.state[0];
-        let damage: [(&str, Spoil); 9] = [
+        let damage: [(&str, Spoil); 11] = [
             ("a range too many", |s| s[1] = MOST_RANGES as u32 + 1),
             ("a range that ends before its start", |s| {
-                s[1] = 1;
-                (s[4], s[5]) = (16, 0);
+                hold(s, 1, &[[16, 0, 1]])
             }),
             ("a range past the limit", |s| {
-                s[1] = 1;
-                (s[4], s[5]) = (0, s[0] + 1);
+                hold(s, 1, &[[0, s[0] + 1, 1]])
             }),
             ("a range past the known end", |s| {
-                (s[0], s[1], s[2], s[3]) = (32, 1, 1, 31);
-                (s[4], s[5]) = (0, 32);
+                (s[0], s[2], s[3]) = (32, 1, 31);
+                hold(s, 1, &[[0, 32, 1]])
             }),
             ("two ranges that touch", |s| {
-                s[1] = 2;
-                (s[4], s[5], s[6], s[7]) = (0, 0, 0, 0);
+                hold(s, 2, &[[0, 0, 1], [0, 0, 2]])
             }),
+            ("a number of 0", |s| hold(s, 5, &[[0, 0, 0]])),
+            ("a number above the count", |s| hold(s, 5, &[[0, 0, 6]])),
             ("an end past the limit", |s| {
                 s[2] = 1;
                 s[3] = s[0] + 1;
@@ -365,13 +502,16 @@ impl<'a, P: Calls> Tp<'a, P> {
             let got = self.port.complete(&state);
             self.tally
                 .same("complete, malformed", &Answer::default(), &got, name);
+            let got = (self.port.count(&state), self.port.range(&state, 0));
+            self.tally
+                .same("count and range, malformed", &(want, want), &got, name);
             self.tally.same(
                 "all as it was",
                 &(held, &lent.buffer),
                 &(state, &buffer),
                 name,
             );
-            // Clearing mends ranges and end, but leaves words that hold no stream alone.
+            // Clearing mends ranges, end and count, but leaves words that hold no stream alone.
             let (due, left) = match held[2] {
                 0 | 1 => (Answer::default(), cleared(&held)),
                 _ => (want, held),

@@ -427,7 +427,7 @@ mod tests {
         {
             assert!(tally.answers.contains_key(&number), "{number}");
         }
-        for number in [21, 22, 23, 30, 34, 35, 36, 38] {
+        for number in [21, 22, 23, 30, 34, 35, 36, 38, 39] {
             assert!(tally.by_document.contains_key(&number), "{number}");
         }
         for (kind, often) in [(SEQUENCES, 20), (ODD_EVEN, 1)] {
