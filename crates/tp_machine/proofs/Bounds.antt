@@ -70,6 +70,7 @@ bounds = record {
     cleared = refl;
     last-given = refl;
     counted-out = refl;
+    full-first = refl;
     cleared-at-last = refl;
     told-first = refl;
     told-at-start = refl;

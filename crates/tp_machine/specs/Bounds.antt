@@ -165,6 +165,10 @@ pub record Numbering : Type 0 where
 abbrev pub numbering : Out → Numbering
 numbering o = record { answer = o .answer; count = o .state .count; ranges = o .state .ranges }
 
+-- 64 ranges are held, and no number is left
+abbrev pub full-and-counted-out : State
+full-and-counted-out = record { limit = 64; ranges = spread 64; end = Unknown; count = 4294967295 }
+
 -- 16 bytes at 16 come to a state
 abbrev pub sixteen-to : State → Numbering
 sixteen-to p = numbering (step p (16 more-at 16) (replicate 48 9))
@@ -186,6 +190,8 @@ pub record Arrivals : Type 0 where
   -- the last number is given; then 39, until the stream is cleared
   pub last-given : sixteen-to (numbered 1 4294967294) ≡ record { answer = pass; count = 4294967295; ranges = range 0 32 4294967295 ∷ [] }
   pub counted-out : sixteen-to (numbered 1 4294967295) ≡ record { answer = refused (refusal 39 []); count = 4294967295; ranges = range 0 16 1 ∷ [] }
+  -- 35 before it: where there is no place for the range either
+  pub full-first : step full-and-counted-out (0 more-at 64) (replicate 80 9) .answer ≡ refused (refusal 35 [])
   pub cleared-at-last : sixteen-to (clear (numbered 1 4294967295)) ≡ record { answer = pass; count = 1; ranges = range 16 32 1 ∷ [] }
   -- ranges are told as they begin, each with its number, whichever came first
   pub told-first : range-told (after-all (16 more-at 64 ∷ 16 more-at 0 ∷ []) .state) 0 ≡ accepted (range 0 16 2)

@@ -5,20 +5,16 @@ use mathlib.Core.List.{List, [], _∷_, _++_}
 use lib.ListN.{replicate}
 use Rattle.numbers.specs.Answers.{_gives_with_}
 use Rattle.tp_machine.specs.declared.TpEnd.the-variants.{Unknown, Known}
-use Rattle.tp_machine.specs.Machine.{State, fresh, step, begun}
+use Rattle.tp_machine.specs.Machine.{fresh, step, begun}
 use Rattle.tp_machine.specs.Taking.{taking}
 use Rattle.tp_machine.specs.Telling.{range-told, count-told}
 use Rattle.tp_machine.specs.Meaning.{range}
 use Rattle.tp_machine.specs.Cases.{_more-at_, _final-at_}
-use Rattle.tp_machine.specs.Bounds.{spread, holding-these}
+use Rattle.tp_machine.specs.Bounds.{spread, holding-these, full-and-counted-out}
 
 -- bytes that are no segment, since the length field is 0, but have an offset of 16
 abbrev pub no-segment : List ℕ
 no-segment = replicate 19 0 ++ (16 ∷ [])
-
--- 64 ranges are held, and no number is left
-abbrev pub full-and-counted-out : State
-full-and-counted-out = record { limit = 64; ranges = spread 64; end = Unknown; count = 4294967295 }
 
 -- a segment comes: 38, 30, 31, 32, 33, 34, 35, 39
 pub record SegmentInOrder : Type 0 where
