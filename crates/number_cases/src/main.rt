@@ -28,7 +28,6 @@ use tp_stream::RangeAnswer;
 use tp_stream::TpStream;
 use tp_words::WORDS;
 use tp_words::put;
-ghost use Prim.Native.Nat.{_≤_};
 
 // How many segments were accepted, here and by the exported function.
 fn count(s: TpStream, words: &[u32]) {
@@ -97,9 +96,7 @@ fn told(s: TpStream, words: &[u32]) {
 }
 
 // Three segments come, and then the numbers are told.
-fn three_come(a: Piece, b: Piece, c: Piece)
-    requires { ⌜ (a .length ≤ 16) × (b .length ≤ 16) × (c .length ≤ 16) ⌝ }
-{
+fn three_come(a: Piece, b: Piece, c: Piece) {
     let mut buf = [0u8; ROOM];
     let mut other = [0u8; ROOM];
     let mut words = [0u32; WORDS];

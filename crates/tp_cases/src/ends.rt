@@ -17,7 +17,6 @@ use tp_range::MAX_RANGES;
 use tp_stream::TpStream;
 use tp_words::WORDS;
 use tp_words::put;
-ghost use Prim.Native.Nat.{_≤_};
 
 // A stream that holds 0 to 32, from a fresh one.
 fn holding(fresh: TpStream, buf: &mut [u8], words: &mut [u32], other: &mut [u8]) -> TpStream {
@@ -26,9 +25,7 @@ fn holding(fresh: TpStream, buf: &mut [u8], words: &mut [u32], other: &mut [u8])
 }
 
 // 0 to 32 is held, and two segments come.
-pub(crate) fn behind(a: Piece, b: Piece)
-    requires { ⌜ (a .length ≤ 16) × (b .length ≤ 16) ⌝ }
-{
+pub(crate) fn behind(a: Piece, b: Piece) {
     let mut buf = [0u8; ROOM];
     let mut other = [0u8; ROOM];
     let mut words = [0u32; WORDS];

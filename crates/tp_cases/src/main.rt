@@ -64,9 +64,7 @@ fn come_apart(
 }
 
 // A case of one segment.
-fn one(limit: u32, a: Piece)
-    requires { ⌜ a .length ≤ 16 ⌝ }
-{
+fn one(limit: u32, a: Piece) {
     let mut buf = [0u8; ROOM];
     let mut other = [0u8; ROOM];
     let mut words = [0u32; WORDS];
@@ -76,9 +74,7 @@ fn one(limit: u32, a: Piece)
 }
 
 // A case of two.
-fn two(limit: u32, a: Piece, b: Piece)
-    requires { ⌜ (a .length ≤ 16) × (b .length ≤ 16) ⌝ }
-{
+fn two(limit: u32, a: Piece, b: Piece) {
     let mut buf = [0u8; ROOM];
     let mut other = [0u8; ROOM];
     let mut words = [0u32; WORDS];

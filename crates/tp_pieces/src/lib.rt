@@ -22,7 +22,7 @@ ghost use lib.ListN.{length};
 // Room for a report of 64 bytes of payload.
 pub const ROOM: usize = 80;
 
-// A segment's payload: where it goes, how long it is, whether more follow.
+// A segment's payload: where it goes, how long it is (at most 16), whether more follow.
 pub struct Piece {
     pub offset: u16,
     pub length: u8,
@@ -30,9 +30,7 @@ pub struct Piece {
 }
 
 // A segment with more to follow, and a final one.
-pub fn more(offset: u16, length: u8) -> Piece
-    ensures { λ r. ⌜ r .length ≡ length ⌝ }
-{
+pub fn more(offset: u16, length: u8) -> Piece {
     Piece {
         offset,
         length,
@@ -40,9 +38,7 @@ pub fn more(offset: u16, length: u8) -> Piece
     }
 }
 
-pub fn last(offset: u16, length: u8) -> Piece
-    ensures { λ r. ⌜ r .length ≡ length ⌝ }
-{
+pub fn last(offset: u16, length: u8) -> Piece {
     Piece {
         offset,
         length,
@@ -59,16 +55,22 @@ fn low_byte(piece: Piece) -> u8 {
     low
 }
 
+// How many bytes it has.
+fn size(piece: Piece) -> u8
+    ensures { λ r. ⌜ r ≤ 16 ⌝ }
+{
+    if piece.length < 16 { piece.length } else { 16 }
+}
+
 // The bytes of a segment, with place for a payload of 16.
 fn segment(piece: Piece) -> [u8; 36]
-    requires { ⌜ piece .length ≤ 16 ⌝ }
     ensures { λ r. ⌜ 36 ≡ length r ⌝ }
 {
     let mut s = [7u8; 36];
     s[4] = 0;
     s[5] = 0;
     s[6] = 0;
-    s[7] = 12 + piece.length;
+    s[7] = 12 + size(piece);
     s[12] = 1;
     s[14] = 0x22;
     s[16] = 0;
@@ -80,7 +82,7 @@ fn segment(piece: Piece) -> [u8; 36]
 
 // What came, in words.
 fn describe(piece: Piece) {
-    number(piece.length as usize);
+    number(size(piece) as usize);
     text(b" bytes at ");
     number(piece.offset as usize);
     if piece.more {
@@ -112,11 +114,9 @@ pub fn consumed(
     words: &mut [u32],
     other: &mut [u8],
     piece: Piece,
-) -> Came
-    requires { ⌜ piece .length ≤ 16 ⌝ }
-{
+) -> Came {
     let bytes = segment(piece);
-    let n = 20 + piece.length as usize;
+    let n = 20 + size(piece) as usize;
     let step = tp_stream::consume(s, &bytes[..n], buf);
     let answer = step.answer;
     let stream = step.stream;
@@ -134,9 +134,7 @@ pub fn answered(
     words: &mut [u32],
     other: &mut [u8],
     piece: Piece,
-) -> TpStream
-    requires { ⌜ piece .length ≤ 16 ⌝ }
-{
+) -> TpStream {
     describe(piece);
     let came = consumed(s, buf, words, other, piece);
     let said = came.said;
@@ -152,9 +150,7 @@ pub fn comes(
     words: &mut [u32],
     other: &mut [u8],
     piece: Piece,
-) -> TpStream
-    requires { ⌜ piece .length ≤ 16 ⌝ }
-{
+) -> TpStream {
     let stream = answered(s, buf, words, other, piece);
     text(b"; ");
     stream
