@@ -320,8 +320,8 @@ viaductle_entry viaductle_next_entry(const uint8_t *entries, size_t len, size_t 
 viaductle_answer viaductle_begin(uint32_t *state, size_t words, uint32_t limit);
 
 /* One segment comes: 16 header bytes, 4 TP bytes and its payload, as on the wire.
- *   0: its range is joined, with the next number, and its payload stands in the buffer at 16 plus its offset, over what was there; of the one with offset 0 the header
- *      stands at 0, without the TP bit (0x20) of its type.
+ *   0: its range is joined, with the next number, and its payload stands in the buffer at 16 plus its offset, over what was there; of the one with
+ *      offset 0 the header stands at 0, without the TP bit (0x20) of its type.
  *   38, 30, 31, 32, 33, 34, 35, 39; then state and buffer are as they were. 33: values[1] is where this segment ends, and values[0] the end that is
  *      known, where it passes that or is a final one with another end; else how far the data held reaches, where a final one ends below that. */
 viaductle_answer viaductle_consume(uint32_t *state, size_t words, const uint8_t *segment, size_t len, uint8_t *buffer, size_t room);

@@ -4,7 +4,6 @@ use mathlib.Core.Path.{_≡_, refl, sym, ap, subst, _∙_}
 use mathlib.Core.Bool.{Bool, true, false, true≢false}
 use mathlib.Core.List.{List, [], _∷_, _++_}
 use mathlib.Core.Logic.{_≢_, ⊎-elim}
-use native.Mathlib.Nat.{le-refl}
 use native.Mathlib.Omega.{arith}
 use borrow.Author.Tests.{le-leb}
 use lib.ListN.{length}
@@ -13,7 +12,7 @@ use Rattle.numbers.proofs.AnswerLaws.{all-map}
 use Rattle.tp_machine.specs.declared.TpRange.{TpRange}
 use Rattle.tp_machine.specs.Lists.{OneOf}
 use Rattle.tp_machine.specs.Segments.{offset, end-of}
-use Rattle.tp_machine.specs.Ranges.{touch, hull-of, grow, joined}
+use Rattle.tp_machine.specs.Ranges.{touch, hull-of, grow}
 use Rattle.tp_machine.specs.Machine.{State, taken, judged, after, step, begin, clear}
 use Rattle.tp_machine.specs.Meaning.{range, range-of, Fine, Good, Accepted}
 use Rattle.tp_machine.specs.Runs.{begins, comes, clears, around, Numbered, Numbers}

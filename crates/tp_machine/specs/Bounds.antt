@@ -198,7 +198,7 @@ pub record Arrivals : Type 0 where
   pub told-at-start : range-told (after-all (16 more-at 64 ∷ 16 more-at 0 ∷ []) .state) 64 ≡ accepted (range 64 80 1)
   pub told-next : range-told (after-all (16 more-at 64 ∷ 16 more-at 0 ∷ []) .state) 1 ≡ accepted (range 64 80 1)
   pub told-none : range-told (after-all (16 more-at 64 ∷ 16 more-at 0 ∷ []) .state) 65 ≡ refused (refusal 20 [])
-  pub told-count : count-told (after-all (16 more-at 64 ∷ 16 more-at 0 ∷ []) .state) ≡ accepted 2
+  pub told-count : count-told (after-all (16 more-at 32 ∷ 16 more-at 0 ∷ 16 more-at 16 ∷ []) .state) ≡ accepted 3
   -- a report is taken at the last number all the same
   pub taken-at-last : taking (record { limit = 64; ranges = range 0 16 7 ∷ []; end = Known 16; count = 4294967295 }) (replicate 32 9) .answer ≡ accepted 16
 

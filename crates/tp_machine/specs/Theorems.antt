@@ -103,8 +103,8 @@ JoiningCovers = (n : TpRange) (rs : List TpRange) (x : ℕ) → covered (joined 
 abbrev pub JoiningOrderUnseen : Type 0
 JoiningOrderUnseen = (n : TpRange) (rs qs : List TpRange) → Rearranged rs qs → Rearranged (joined n rs) (joined n qs)
 
--- after an accepted segment that set depends on nothing else: neither on limit, end and order before, nor on the buffer; what the ranges span does
--- not depend on numbers and count either
+-- after an accepted segment that set depends on it and, for the new number, on the count: neither on limit, end and order before, nor on the buffer.
+-- What the ranges span does not depend on numbers and count either
 pub record RangesDepend : Type 0 where
   pub with-numbers : (p q : State) (seg b c : List ℕ) → step p seg b .answer ≡ pass → step q seg c .answer ≡ pass → p .count ≡ q .count → Rearranged (p .ranges) (q .ranges)
       → Rearranged (step p seg b .state .ranges) (step q seg c .state .ranges)
@@ -131,7 +131,7 @@ EndIsGreatest = (p : State) → Reached p → (e : ℕ) → p .end ≡ Known e �
 abbrev pub CompleteEnds : Type 0
 CompleteEnds = (p : State) → Reached p → complete p ≡ true → (e : ℕ) × (p .end ≡ Known e) × (p .ranges ≡ range 0 e (p .count) ∷ [])
 
--- each accepted segment has had a number of its own
+-- no two ranges have the same number, and where a segment was accepted some range has the latest one's
 abbrev pub EveryNumber : Type 0
 EveryNumber = (p : State) → Reached p → Numbers p
 

@@ -4,7 +4,7 @@ use lib.ListN.{length, drop}
 use lib.Seq.{drop-at}
 use Rattle.tp_machine.specs.Machine.{fresh}
 use Rattle.tp_range.proofs.Laws.{placed-over}
-use Rattle.tp_stream.specs.Stream.{held, view, stored, blank}
+use Rattle.tp_stream.specs.Stream.{held, view, blank}
 use Rattle.tp_stream.specs.Record.{RecordHolds}
 use Rattle.tp_stream.proofs.StreamLaws.{held-take, stored-view, view-stored}
 use Rattle.tp_stream.proofs.MalformedLaws.{more-than-most}
