@@ -73,6 +73,7 @@ bounds = record {
     full-first = refl;
     cleared-at-last = refl;
     told-first = refl;
+    told-first-too = refl;
     told-at-start = refl;
     told-next = refl;
     told-none = refl;

@@ -195,6 +195,7 @@ pub record Arrivals : Type 0 where
   pub cleared-at-last : sixteen-to (clear (numbered 1 4294967295)) ≡ record { answer = pass; count = 1; ranges = range 16 32 1 ∷ [] }
   -- ranges are told as they begin, each with its number, whichever came first
   pub told-first : range-told (after-all (16 more-at 64 ∷ 16 more-at 0 ∷ []) .state) 0 ≡ accepted (range 0 16 2)
+  pub told-first-too : range-told (after-all (16 more-at 0 ∷ 16 more-at 64 ∷ []) .state) 0 ≡ accepted (range 0 16 1)
   pub told-at-start : range-told (after-all (16 more-at 64 ∷ 16 more-at 0 ∷ []) .state) 64 ≡ accepted (range 64 80 1)
   pub told-next : range-told (after-all (16 more-at 64 ∷ 16 more-at 0 ∷ []) .state) 1 ≡ accepted (range 64 80 1)
   pub told-none : range-told (after-all (16 more-at 64 ∷ 16 more-at 0 ∷ []) .state) 65 ≡ refused (refusal 20 [])
