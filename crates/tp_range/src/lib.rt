@@ -11,6 +11,13 @@ use tp_machine::TpRange;
 // How many ranges are held at most.
 pub const MAX_RANGES: usize = 64;
 
+// A range that was never used.
+pub const UNUSED: TpRange = TpRange {
+    start: 0,
+    end: 0,
+    number: 0,
+};
+
 // What joining gives: the new array and how many it holds; or, where they would be too many, all as it was.
 pub struct Joined {
     pub full: bool,

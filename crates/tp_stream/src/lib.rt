@@ -14,6 +14,7 @@ use refusal::Verdict;
 use tp_machine::TpEnd;
 use tp_machine::TpRange;
 use tp_range::MAX_RANGES;
+use tp_range::UNUSED;
 use tp_segment::HEADER_LEN;
 use tp_segment::SegmentAnswer;
 use tp_segment::TpHeader;
@@ -55,12 +56,7 @@ pub struct TpStep {
 fn fresh(limit: u32) -> TpStream
     ensures { λ r. ⌜ r ≡ stored blank (fresh-of limit) ⌝ }
 {
-    let none = TpRange {
-        start: 0,
-        end: 0,
-        number: 0,
-    };
-    let ranges = [none; MAX_RANGES];
+    let ranges = [UNUSED; MAX_RANGES];
     TpStream {
         limit,
         ranges,

@@ -12,6 +12,7 @@ use refusal::Count;
 use refusal::Refusal;
 use tp_machine::TpRange;
 use tp_range::MAX_RANGES;
+use tp_range::UNUSED;
 
 // A range, or why there is none.
 pub enum RangeAnswer {
@@ -59,11 +60,7 @@ fn first_from(ranges: [TpRange; MAX_RANGES], count: usize, from: u32) -> RangeAn
     requires { ⌜ count ≤ most ⌝ }
     ensures { λ r. ⌜ range-said r ≡ first-from from (take count ranges) ⌝ }
 {
-    let mut first = TpRange {
-        start: 0,
-        end: 0,
-        number: 0,
-    };
+    let mut first = UNUSED;
     let mut found = false;
     let mut i = count;
     while 0 < i {

@@ -3,6 +3,7 @@
 use tp_machine::TpEnd;
 use tp_machine::TpRange;
 use tp_range::MAX_RANGES;
+use tp_range::UNUSED;
 use tp_stream::TpStream;
 ghost use mathlib.Core.Path.{_≡_};
 ghost use Prim.Native.Nat.{_≤_};
@@ -41,12 +42,7 @@ fn known_of(end: TpEnd) -> u32
 fn outside() -> TpStream
     ensures { λ r. ⌜ r ≡ outside-of ⌝ }
 {
-    let none = TpRange {
-        start: 0,
-        end: 0,
-        number: 0,
-    };
-    let ranges = [none; MAX_RANGES];
+    let ranges = [UNUSED; MAX_RANGES];
     TpStream {
         limit: 0,
         ranges,
@@ -61,12 +57,7 @@ fn held_in(words: &[u32]) -> TpStream
     requires { ⌜ size ≤ length (now words) ⌝ }
     ensures { λ r. ⌜ r ≡ held-in (now (words .entry)) ⌝ }
 {
-    let none = TpRange {
-        start: 0,
-        end: 0,
-        number: 0,
-    };
-    let mut ranges = [none; MAX_RANGES];
+    let mut ranges = [UNUSED; MAX_RANGES];
     let mut i: usize = 0;
     while i < MAX_RANGES {
         let at = FRONT_WORDS + RANGE_WORDS * i;
