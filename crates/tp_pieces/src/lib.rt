@@ -15,12 +15,21 @@ use refusal::Verdict;
 use refusal::none;
 use refusal::numbers_of;
 use tp_stream::TpStream;
+ghost use Prim.Native.Nat.{_+_, _%_};
 ghost use mathlib.Core.Path.{_≡_};
-ghost use Prim.Native.Nat.{_≤_};
-ghost use lib.ListN.{length};
+ghost use mathlib.Core.Bool.{true, false, cond};
+ghost use lib.ListN.{take};
+ghost use Rattle.tp_pieces.specs.Pieces.{size as size-of, offset, bytes, numbers, Begun, CameTo, Comes, Takes};
 
 // Room for a report of 64 bytes of payload.
 pub const ROOM: usize = 80;
+
+// A segment but for its length, offset and bit for more: header, TP word, and 16 bytes of payload.
+const FRAME: [u8; 36] = *b"\
+    \x12\x34\x80\x01\0\0\0\0\
+    \0\0\0\x01\x01\x01\x22\0\
+    \0\0\0\0\
+    \x07\x07\x07\x07\x07\x07\x07\x07\x07\x07\x07\x07\x07\x07\x07\x07";
 
 // A segment's payload: where it goes, how long it is (at most 16), whether more follow.
 pub struct Piece {
@@ -30,7 +39,9 @@ pub struct Piece {
 }
 
 // A segment with more to follow, and a final one.
-pub fn more(offset: u16, length: u8) -> Piece {
+pub fn more(offset: u16, length: u8) -> Piece
+    ensures { λ r. ⌜ r ≡ record { offset = offset; length = length; more = true } ⌝ }
+{
     Piece {
         offset,
         length,
@@ -38,7 +49,9 @@ pub fn more(offset: u16, length: u8) -> Piece {
     }
 }
 
-pub fn last(offset: u16, length: u8) -> Piece {
+pub fn last(offset: u16, length: u8) -> Piece
+    ensures { λ r. ⌜ r ≡ record { offset = offset; length = length; more = false } ⌝ }
+{
     Piece {
         offset,
         length,
@@ -46,8 +59,10 @@ pub fn last(offset: u16, length: u8) -> Piece {
     }
 }
 
-// The last byte of a TP word: the offset's low bits, of which four are not sent, and the bit for more.
-fn low_byte(piece: Piece) -> u8 {
+// The last byte of the TP word: the offset's low bits, of which four are not sent, and the bit for more.
+fn low_byte(piece: Piece) -> u8
+    ensures { λ r. ⌜ r ≡ (offset piece + cond (piece .more) 1 0) % 256 ⌝ }
+{
     let low = (piece.offset % 256 / 16 * 16) as u8;
     if piece.more {
         return low + 1;
@@ -57,24 +72,17 @@ fn low_byte(piece: Piece) -> u8 {
 
 // How many bytes it has.
 fn size(piece: Piece) -> u8
-    ensures { λ r. ⌜ r ≤ 16 ⌝ }
+    ensures { λ r. ⌜ r ≡ size-of piece ⌝ }
 {
     if piece.length < 16 { piece.length } else { 16 }
 }
 
-// The bytes of a segment, with place for a payload of 16.
+// Its segment, with place for a payload of 16.
 fn segment(piece: Piece) -> [u8; 36]
-    ensures { λ r. ⌜ 36 ≡ length r ⌝ }
+    ensures { λ r. ⌜ take (20 + size-of piece) r ≡ bytes piece ⌝ }
 {
-    let mut s = [7u8; 36];
-    s[4] = 0;
-    s[5] = 0;
-    s[6] = 0;
+    let mut s = FRAME;
     s[7] = 12 + size(piece);
-    s[12] = 1;
-    s[14] = 0x22;
-    s[16] = 0;
-    s[17] = 0;
     s[18] = (piece.offset / 256) as u8;
     s[19] = low_byte(piece);
     s
@@ -93,7 +101,9 @@ fn describe(piece: Piece) {
 }
 
 // A verdict's number and values.
-fn said_of(verdict: Verdict) -> Numbers {
+fn said_of(verdict: Verdict) -> Numbers
+    ensures { λ r. ⌜ r ≡ numbers verdict ⌝ }
+{
     match verdict {
         Verdict::Passed => none(0),
         Verdict::Refused(refusal) => numbers_of(refusal),
@@ -114,7 +124,9 @@ pub fn consumed(
     words: &mut [u32],
     other: &mut [u8],
     piece: Piece,
-) -> Came {
+) -> Came
+    ensures { λ r. ⌜ CameTo piece s (now (buf .entry)) (now (words .entry)) (now (other .entry)) r (now (buf .exit)) (now (words .exit)) (now (other .exit)) ⌝ }
+{
     let bytes = segment(piece);
     let n = 20 + size(piece) as usize;
     let step = tp_stream::consume(s, &bytes[..n], buf);
@@ -134,7 +146,9 @@ pub fn answered(
     words: &mut [u32],
     other: &mut [u8],
     piece: Piece,
-) -> TpStream {
+) -> TpStream
+    ensures { λ r. ⌜ Comes piece s (now (buf .entry)) (now (words .entry)) (now (other .entry)) r (now (buf .exit)) (now (words .exit)) (now (other .exit)) ⌝ }
+{
     describe(piece);
     let came = consumed(s, buf, words, other, piece);
     let said = came.said;
@@ -150,7 +164,9 @@ pub fn comes(
     words: &mut [u32],
     other: &mut [u8],
     piece: Piece,
-) -> TpStream {
+) -> TpStream
+    ensures { λ r. ⌜ Comes piece s (now (buf .entry)) (now (words .entry)) (now (other .entry)) r (now (buf .exit)) (now (words .exit)) (now (other .exit)) ⌝ }
+{
     let stream = answered(s, buf, words, other, piece);
     text(b"; ");
     stream
@@ -165,7 +181,9 @@ fn length_field(report: &[u8]) -> u32 {
 }
 
 // The message is taken; prints what it has, and ends the line.
-pub fn taken(s: TpStream, buf: &mut [u8], words: &[u32], other: &mut [u8]) {
+pub fn taken(s: TpStream, buf: &mut [u8], words: &[u32], other: &mut [u8])
+    ensures { λ _. ⌜ Takes s (now (buf .entry)) (now (words .entry)) (now (other .entry)) (now (buf .exit)) (now (other .exit)) ⌝ }
+{
     let answer = tp_stream::take(s, buf);
     let told = viaductle_take(words, other);
     match answer {
@@ -186,7 +204,9 @@ pub fn taken(s: TpStream, buf: &mut [u8], words: &[u32], other: &mut [u8]) {
 }
 
 // A stream begins, and the exported one; prints its limit.
-pub fn begun(limit: u32, words: &mut [u32]) -> TpStream {
+pub fn begun(limit: u32, words: &mut [u32]) -> TpStream
+    ensures { λ r. ⌜ Begun limit (now (words .entry)) r (now (words .exit)) ⌝ }
+{
     text(b"limit ");
     number(limit as usize);
     text(b"; ");
