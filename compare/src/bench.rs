@@ -2,7 +2,7 @@
 //! medians. A time says little of another machine; the ratio is what counts. Instructions, counted by an emulator, do not hang on its load.
 //! The crate has no strict setting: what reading costs under it stands beside what it costs without, over the same payloads.
 
-use crate::calls::{Calls, MOST_LIMIT, SLOTS, STRICT, WORDS};
+use crate::calls::{Calls, MOST_LIMIT, MOST_RANGES, SLOTS, STRICT, WORDS};
 use crate::plan::family;
 use crate::random::Random;
 use crate::tp_inputs::segment;
@@ -332,6 +332,13 @@ fn odd_even(segments: &[Vec<u8>]) -> Vec<&Vec<u8>> {
     segments.iter().step_by(2).chain(others).collect()
 }
 
+/// One random order.
+fn shuffled(segments: &[Vec<u8>], seed: u64) -> Vec<&Vec<u8>> {
+    let mut order: Vec<&Vec<u8>> = segments.iter().collect();
+    Random::of(seed, family::SHUFFLED, segments.len() as u64).shuffle(&mut order);
+    order
+}
+
 /// Joining one report: the same memory each time, cleared before, taken after.
 fn joining<P: Calls>(port: &P, meter: &Meter, segments: &[&Vec<u8>]) -> [f64; 2] {
     const REPORTS: usize = 50;
@@ -363,6 +370,45 @@ fn joining<P: Calls>(port: &P, meter: &Meter, segments: &[&Vec<u8>]) -> [f64; 2]
         }
     };
     beside(meter, REPORTS, [&mut crate_side, &mut port_side])
+}
+
+/// So many segments of 16 bytes, each two 16 bytes apart.
+fn apart_segments(count: usize) -> Vec<Vec<u8>> {
+    (0..count)
+        .map(|at| segment(32 * at as u32, true, &[at as u8; 16]))
+        .collect()
+}
+
+/// A segment that has come already comes again, to a stream that holds so many ranges: it is the middle one of them.
+fn held<P: Calls>(port: &P, meter: &Meter, ranges: usize) -> [f64; 2] {
+    const TIMES: usize = 1_000;
+    let limit = MOST_LIMIT;
+    let config = TpBufConfig::new(limit as usize, limit).expect("the limit is small");
+    let mut theirs = TpBuf::new(config);
+    let mut state = [0; WORDS];
+    let mut buffer = vec![0; 16 + limit as usize];
+    port.begin(&mut state, limit);
+    let segments = apart_segments(ranges);
+    for segment in &segments {
+        let message = SomeipMsgSlice::from_slice(segment).expect("a segment");
+        theirs.consume_tp(message).expect("accepted");
+        let answer = port.consume(&mut state, segment, &mut buffer);
+        assert!(answer.accepted());
+    }
+    let middle = &segments[ranges / 2];
+    let mut crate_side = || {
+        for _ in 0..TIMES {
+            let message = SomeipMsgSlice::from_slice(black_box(middle)).expect("a segment");
+            theirs.consume_tp(message).expect("accepted");
+        }
+    };
+    let mut port_side = || {
+        for _ in 0..TIMES {
+            let answer = port.consume(&mut state, black_box(middle), &mut buffer);
+            assert!(answer.accepted());
+        }
+    };
+    beside(meter, TIMES, [&mut crate_side, &mut port_side])
 }
 
 /// A payload of the mix, with its kind.
@@ -423,19 +469,27 @@ pub fn run<P: Calls>(port: &P, meter: &Meter, seed: u64) {
     if measured.iter().zip(weighted).any(|(a, b)| !alike(*a, b)) {
         println!("\nThe whole mix is not what its kinds add up to: do not believe it, and run again on a quiet machine.");
     }
-    let segments = report_segments(1392);
-    // As many ranges are held half way as may be.
-    let many = report_segments(512);
-    println!("\n| joining 65,520 bytes | segments | crate, {unit} a report | Viaductle, {unit} a report | ratio |");
+    println!("\n| joining 65,520 bytes | segments, bytes | crate, {unit} a report | Viaductle, {unit} a report | ratio |");
     println!("|---|---|---|---|---|");
-    for (name, order) in [
-        ("in order", segments.iter().collect()),
-        ("every second, then the others", odd_even(&segments)),
-        ("reversed", segments.iter().rev().collect()),
-        ("every second, then the others", odd_even(&many)),
-    ] {
-        let [theirs, ours] = joining(port, meter, &order);
-        print_row(name, &order.len().to_string(), theirs, ours);
+    // Of the longest segments, and of some that half way are as many ranges as may be held.
+    for length in [1392, 512] {
+        let segments = report_segments(length);
+        for (name, order) in [
+            ("in order", segments.iter().collect()),
+            ("every second, then the others", odd_even(&segments)),
+            ("reversed", segments.iter().rev().collect()),
+            ("shuffled", shuffled(&segments, seed)),
+        ] {
+            let [theirs, ours] = joining(port, meter, &order);
+            print_row(name, &format!("{}, {length}", order.len()), theirs, ours);
+            println!();
+        }
+    }
+    println!("\n| one segment of 16 bytes | ranges held | crate, {unit} | Viaductle, {unit} | ratio |");
+    println!("|---|---|---|---|---|");
+    for ranges in [1, 2, 4, 8, 16, 32, MOST_RANGES] {
+        let [theirs, ours] = held(port, meter, ranges);
+        print_row("come again", &ranges.to_string(), theirs, ours);
         println!();
     }
 }
@@ -448,7 +502,7 @@ fn size(payloads: &[&Vec<u8>]) -> String {
 #[cfg(test)]
 mod tests {
     use super::*;
-    use crate::calls::{Settings, MOST_RANGES};
+    use crate::calls::Settings;
     use crate::oracle;
 
     /// The strict setting changes no answer to a payload of the mix, so that its figures are of the same work and the check.
