@@ -3,7 +3,7 @@ use mathlib.Core.Path.{refl}
 use Rattle.numbers.specs.Bytes.{be16, be32, at16, at32}
 use Rattle.numbers.specs.Answers.{refuse_when_else_, given}
 use Rattle.tp_machine.specs.Segments.{tp-type, is-segment, offset, more, payload, without-tp, header, pasted, written}
-use Rattle.tp_machine.specs.Ranges.{any, touch, hull-of, keep, grow, joined, some-touch, greatest-end}
+use Rattle.tp_machine.specs.Ranges.{any, touch, hull-of, keep, grow, inserted, joined, some-touch, greatest-end}
 use Rattle.tp_machine.specs.Machine.{bad-range, bad-state, judged, after, step, begun, begin, fed, clear}
 use Rattle.tp_machine.specs.Taking.{complete, ready, taking}
 use Rattle.tp_machine.specs.Telling.{first-from, range-told, count-told}
@@ -11,19 +11,19 @@ use Rattle.tp_machine.specs.Bounds.{Fills, Full, OddEven, Bounds}
 
 -- how many ranges are held; each by itself, since what one declaration may compute has a bound
 fills : Fills
-unfolding be16 be32 at16 at32 refuse_when_else_ given tp-type is-segment offset more payload without-tp header pasted written any touch hull-of keep grow joined some-touch greatest-end bad-range bad-state judged after step begun begin fed clear complete ready taking
+unfolding be16 be32 at16 at32 refuse_when_else_ given tp-type is-segment offset more payload without-tp header pasted written any touch hull-of keep grow inserted joined some-touch greatest-end bad-range bad-state judged after step begun begin fed clear complete ready taking
 fills = refl
 
 full : Full
-unfolding be16 be32 at16 at32 refuse_when_else_ given tp-type is-segment offset more payload without-tp header pasted written any touch hull-of keep grow joined some-touch greatest-end bad-range bad-state judged after step begun begin fed clear complete ready taking
+unfolding be16 be32 at16 at32 refuse_when_else_ given tp-type is-segment offset more payload without-tp header pasted written any touch hull-of keep grow inserted joined some-touch greatest-end bad-range bad-state judged after step begun begin fed clear complete ready taking
 full = refl
 
 odd-even : OddEven
-unfolding be16 be32 at16 at32 refuse_when_else_ given tp-type is-segment offset more payload without-tp header pasted written any touch hull-of keep grow joined some-touch greatest-end bad-range bad-state judged after step begun begin fed clear complete ready taking
+unfolding be16 be32 at16 at32 refuse_when_else_ given tp-type is-segment offset more payload without-tp header pasted written any touch hull-of keep grow inserted joined some-touch greatest-end bad-range bad-state judged after step begun begin fed clear complete ready taking
 odd-even = refl
 
 pub bounds : Bounds
-unfolding be16 be32 at16 at32 refuse_when_else_ given tp-type is-segment offset more payload without-tp header pasted written any touch hull-of keep grow joined some-touch greatest-end bad-range bad-state judged after step begun begin fed clear complete ready taking first-from range-told count-told
+unfolding be16 be32 at16 at32 refuse_when_else_ given tp-type is-segment offset more payload without-tp header pasted written any touch hull-of keep grow inserted joined some-touch greatest-end bad-range bad-state judged after step begun begin fed clear complete ready taking first-from range-told count-told
 bounds = record {
   cases = (refl, (refl, (refl, (refl, (refl, (refl, (refl, tt)))))));
   segment-lines = record {

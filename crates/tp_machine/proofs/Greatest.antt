@@ -1,9 +1,9 @@
 -- The greatest end of ranges: what it means in plain words, that joining reaches as far as the new range and the old ones, and that the order
 -- is not seen. Assumes nothing.
 use Prim.Native.Nat.{ℕ, _≤_, _<_, max}
-use mathlib.Core.Path.{_≡_, refl, ap, _∙_}
+use mathlib.Core.Path.{_≡_, refl, sym, ap, _∙_}
 use mathlib.Core.Bool.{Bool, true, false}
-use mathlib.Core.List.{List, [], _∷_, _++_}
+use mathlib.Core.List.{List, [], _∷_}
 use mathlib.Core.Logic.{_↔_, inl, inr}
 use native.Mathlib.Omega.{arith}
 use borrow.Author.Tests.{leb-true, leb-false}
@@ -14,6 +14,8 @@ use Rattle.tp_machine.specs.Lists.{OneOf, Rearranged, nothing, first, sw
 use Rattle.tp_machine.specs.Ranges.{touch, hull-of, unless, keep, grow-if, grow, joined, greatest-end}
 use Rattle.tp_machine.specs.Meaning.{Greatest}
 use Rattle.tp_machine.specs.Theorems.{GreatestMeans}
+use Rattle.tp_machine.proofs.Lists.{all-moved, one-of-moved}
+use Rattle.tp_machine.proofs.Joining.{joined-moved}
 
 -- ---- in plain words
 
@@ -60,6 +62,14 @@ unfolding greatest-end
 greatest-past [] x h = absurd (omega arith)
 greatest-past (r ∷ rs) x h = greatest-means r rs (greatest-end (r ∷ rs)) .0 refl
 
+-- ---- the order of the ranges
+pub greatest-moved : {rs qs : List TpRange} → Rearranged rs qs → greatest-end rs ≡ greatest-end qs
+unfolding greatest-end
+greatest-moved nothing = refl
+greatest-moved (first {a} r) = ap (max (a .end)) (greatest-moved r)
+greatest-moved (swap {a} {b} {l}) = omega arith
+greatest-moved (next r s) = greatest-moved r ∙ greatest-moved s
+
 -- ---- joining
 grow-reaches : (n g : TpRange) (rs : List TpRange) → max (grow n g rs .end) (greatest-end (keep n rs)) ≡ max (g .end) (greatest-end rs)
 unfolding keep grow hull-of greatest-end
@@ -71,28 +81,12 @@ grow-reaches n g (r ∷ rs) = go (λ h. grow-reaches n h rs) (touch n r)
     go later true = later (hull-of g r) ∙ omega arith
     go later false = omega (arith, later g)
 
-behind-reaches : (xs : List TpRange) (g : TpRange) → greatest-end (xs ++ (g ∷ [])) ≡ max (g .end) (greatest-end xs)
-unfolding greatest-end
-behind-reaches [] g = refl
-behind-reaches (x ∷ xs) g = omega (arith, behind-reaches xs g)
-
 pub joining-reaches : (n : TpRange) (rs : List TpRange) → greatest-end (joined n rs) ≡ max (n .end) (greatest-end rs)
-unfolding joined
-joining-reaches n rs = behind-reaches (keep n rs) (grow n n rs) ∙ grow-reaches n n rs
+unfolding greatest-end
+joining-reaches n rs = sym (greatest-moved (joined-moved n rs)) ∙ grow-reaches n n rs
 
 -- what was joined is not empty
 pub joined-greatest : (n : TpRange) (rs : List TpRange) (x : ℕ) → greatest-end (joined n rs) ≡ x → Greatest (joined n rs) x
-unfolding joined
-joined-greatest n rs x e = go (keep n rs) (grow n n rs) e
-  where
-    go : (xs : List TpRange) (g : TpRange) → greatest-end (xs ++ (g ∷ [])) ≡ x → Greatest (xs ++ (g ∷ [])) x
-    go [] g h = greatest-means g [] x .0 h
-    go (y ∷ xs) g h = greatest-means y (xs ++ (g ∷ [])) x .0 h
-
--- ---- the order of the ranges
-pub greatest-moved : {rs qs : List TpRange} → Rearranged rs qs → greatest-end rs ≡ greatest-end qs
-unfolding greatest-end
-greatest-moved nothing = refl
-greatest-moved (first {a} r) = ap (max (a .end)) (greatest-moved r)
-greatest-moved (swap {a} {b} {l}) = omega arith
-greatest-moved (next r s) = greatest-moved r ∙ greatest-moved s
+joined-greatest n rs x e =
+    let g = greatest-means (grow n n rs) (keep n rs) x .0 (greatest-moved (joined-moved n rs) ∙ e) in
+    record { one = g .one; held = one-of-moved (g .one) (joined-moved n rs) (g .held); there = g .there; none-past = all-moved (λ r. r .end ≤ x) (joined-moved n rs) (g .none-past) }

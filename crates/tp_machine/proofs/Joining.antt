@@ -2,7 +2,7 @@
 -- numbers are seen. Assumes nothing.
 use Prim.Native.Nat.{ℕ, _≤_, _<_}
 use mathlib.Core.Path.{_≡_, refl, sym, ap, ap₂, _∙_}
-use mathlib.Core.Bool.{Bool, true, false, _&&_, _||_, and-comm, or-assoc, or-true, true≢false, false≢true}
+use mathlib.Core.Bool.{Bool, true, false, _&&_, _||_, cond, and-comm, or-assoc, or-true, true≢false, false≢true}
 use mathlib.Core.List.{List, [], _∷_, _++_, map}
 use mathlib.Core.Logic.{_⊎_, inl, inr, ⊎-elim, _↔_}
 use native.Mathlib.Nat.{le-refl}
@@ -15,12 +15,26 @@ use Rattle.numbers.proofs.AnswerLaws.{all-map, all-both}
 use Rattle.tp_machine.specs.declared.TpRange.{TpRange}
 use Rattle.tp_machine.specs.Lists.{OneOf, Pairwise, Rearranged, nothing, first, swap, next}
 use Rattle.tp_machine.specs.Segments.{offset, end-of}
-use Rattle.tp_machine.specs.Ranges.{any, touch, hull-of, unless, keep, grow-if, grow, joined, some-touch}
+use Rattle.tp_machine.specs.Ranges.{any, touch, hull-of, unless, keep, grow-if, grow, inserted, joined, some-touch}
 use Rattle.tp_machine.specs.Meaning.{range, range-of, Apart}
 use Rattle.tp_machine.specs.Runs.{around, Lies, holds, unnumbered}
 use Rattle.tp_machine.specs.Theorems.{JoiningCovers, JoiningOrderUnseen}
 use Rattle.numbers.proofs.TestLaws.{or-inv, or-cases, neither, or-swap, and-inv, same-test}
-use Rattle.tp_machine.proofs.Lists.{all-append, pairwise-append, one-behind, any-all, all-any, any-append, any-moved, unmoved, append-moved}
+use Rattle.tp_machine.proofs.Lists.{all-moved, any-all, all-any, any-moved, pairwise-moved, unmoved, moved-back, one-of-moved}
+
+-- ---- the grown range and those that are kept, in another order
+pub inserted-moved : (g : TpRange) (xs : List TpRange) → Rearranged (g ∷ xs) (inserted g xs)
+unfolding inserted
+inserted-moved g [] = unmoved (g ∷ [])
+inserted-moved g (x ∷ xs) = go (ltb (g .start) (x .start)) (inserted-moved g xs)
+  where
+    go : (t : Bool) → Rearranged (g ∷ xs) (inserted g xs) → Rearranged (g ∷ x ∷ xs) (cond t (g ∷ x ∷ xs) (x ∷ inserted g xs))
+    go true later = unmoved (g ∷ x ∷ xs)
+    go false later = next swap (first later)
+
+pub joined-moved : (n : TpRange) (rs : List TpRange) → Rearranged (grow n n rs ∷ keep n rs) (joined n rs)
+unfolding joined
+joined-moved n rs = inserted-moved (grow n n rs) (keep n rs)
 
 -- ---- a property of each range
 module _ (P : TpRange → Type 0) where
@@ -49,13 +63,43 @@ module _ (P : TpRange → Type 0) where
 
   -- what those that are not touched have, and the grown one
   pub each-joined : (Q : TpRange → Type 0) (n : TpRange) → ((x : TpRange) → touch n x ≡ false → Q x → P x) → (rs : List TpRange) → All Q rs → P (grow n n rs) → All P (joined n rs)
-  unfolding joined
-  each-joined Q n f rs e p = all-append P (keep n rs) (grow n n rs) (all-kept Q n f rs e) p
+  each-joined Q n f rs e p = all-moved P (joined-moved n rs) (p, all-kept Q n f rs e)
 
   pub all-joined : (n : TpRange) → ((g r : TpRange) → P g → P r → P (hull-of g r)) → (rs : List TpRange) → P n → All P rs → All P (joined n rs)
   all-joined n f rs p e = each-joined P n (λ x _ q. q) rs e (all-grow P n (λ g r _. f g r) n rs p e)
 
--- ---- a relation of each two that are not touched, and of each of them to the grown one
+-- ---- two lists one behind the other
+unless-append : (b : Bool) (r : TpRange) (xs ys : List TpRange) → unless b r xs ++ ys ≡ unless b r (xs ++ ys)
+unless-append true r xs ys = refl
+unless-append false r xs ys = refl
+
+pub keep-append : (n : TpRange) (xs ys : List TpRange) → keep n (xs ++ ys) ≡ keep n xs ++ keep n ys
+unfolding keep
+keep-append n [] ys = refl
+keep-append n (x ∷ xs) ys = ap (unless (touch n x) x) (keep-append n xs ys) ∙ sym (unless-append (touch n x) x (keep n xs) (keep n ys))
+
+pub grow-append : (n g : TpRange) (xs ys : List TpRange) → grow n g (xs ++ ys) ≡ grow n (grow n g xs) ys
+unfolding grow
+grow-append n g [] ys = refl
+grow-append n g (x ∷ xs) ys = grow-append n (grow-if (touch n x) g x) xs ys
+
+-- ---- a list of which n touches none, or each
+pub keep-none : (n : TpRange) (xs : List TpRange) → All (λ x. touch n x ≡ false) xs → keep n xs ≡ xs
+unfolding keep
+keep-none n [] e = refl
+keep-none n (x ∷ xs) e = rw (e .0) (ap (λ (l : List TpRange). x ∷ l) (keep-none n xs (e .1)))
+
+pub keep-each : (n : TpRange) (xs : List TpRange) → All (λ x. touch n x ≡ true) xs → keep n xs ≡ []
+unfolding keep
+keep-each n [] e = refl
+keep-each n (x ∷ xs) e = rw (e .0) (keep-each n xs (e .1))
+
+pub grow-untouched : (n g : TpRange) (xs : List TpRange) → All (λ x. touch n x ≡ false) xs → grow n g xs ≡ g
+unfolding grow
+grow-untouched n g [] e = refl
+grow-untouched n g (x ∷ xs) e = rw (e .0) (grow-untouched n g xs (e .1))
+
+-- ---- a relation of each two that are not touched, and of the grown one to each of them, that holds both ways
 module _ (R : TpRange → TpRange → Type 0) (n : TpRange) where
   pairwise-keep : (rs : List TpRange) → Pairwise R rs → Pairwise R (keep n rs)
   unfolding keep
@@ -66,14 +110,12 @@ module _ (R : TpRange → TpRange → Type 0) (n : TpRange) where
       go true later = later
       go false later = (all-keep (R r) n rs (p .0), later)
 
-  pub pairwise-joined : (rs : List TpRange) → Pairwise R rs → All (λ x. R x (grow n n rs)) rs → Pairwise R (joined n rs)
-  unfolding joined
-  pairwise-joined rs p a = pairwise-append R (keep n rs) (grow n n rs) (pairwise-keep rs p) (all-keep (λ x. R x (grow n n rs)) n rs a)
+  pub pairwise-joined : ((a b : TpRange) → R a b → R b a) → (rs : List TpRange) → Pairwise R rs → All (R (grow n n rs)) rs → Pairwise R (joined n rs)
+  pairwise-joined both rs p a = pairwise-moved R both (joined-moved n rs) (all-keep (R (grow n n rs)) n rs a, pairwise-keep rs p)
 
 -- the grown one is one of the joined
 pub grown-joined : (n : TpRange) (rs : List TpRange) → OneOf (grow n n rs) (joined n rs)
-unfolding joined
-grown-joined n rs = one-behind (keep n rs) (grow n n rs)
+grown-joined n rs = one-of-moved (grow n n rs) (joined-moved n rs) (inl refl)
 
 -- ---- touching
 pub apart : (a b : TpRange) → touch a b ≡ false → Apart a b
@@ -88,6 +130,10 @@ pub meets : (a b : TpRange) → touch a b ≡ true → (a .start ≤ b .end) × 
 unfolding touch
 meets a b e = let o = and-inv (leb (a .start) (b .end)) (leb (b .start) (a .end)) e in (leb-true _ _ (o .0), leb-true _ _ (o .1))
 
+pub touching : (a b : TpRange) → a .start ≤ b .end → b .start ≤ a .end → touch a b ≡ true
+unfolding touch
+touching a b p q = rw (le-leb (a .start) (b .end) p, le-leb (b .start) (a .end) q)
+
 apart-left : (a b : TpRange) → b .end < a .start → touch a b ≡ false
 unfolding touch
 apart-left a b h = rw (lt-leb (a .start) (b .end) h)
@@ -96,8 +142,20 @@ touch-sym : (a b : TpRange) → touch a b ≡ touch b a
 unfolding touch
 touch-sym a b = and-comm (leb (a .start) (b .end)) (leb (b .start) (a .end))
 
-untouched : (a b : TpRange) → Apart a b → touch a b ≡ false
+pub untouched : (a b : TpRange) → Apart a b → touch a b ≡ false
 untouched a b h = ⊎-elim (λ p. touch-sym a b ∙ apart-left b a p) (λ p. apart-left a b p) h
+
+-- whether some touch, the order does not tell
+pub touch-moved : {rs qs : List TpRange} → Rearranged rs qs → some-touch rs ≡ some-touch qs
+unfolding some-touch any
+touch-moved nothing = refl
+touch-moved (first {a} {l} {m} r) = rw (any-moved (touch a) r, touch-moved r)
+touch-moved (swap {a} {b} {l}) = rw (touch-sym a b) (turn (touch b a) (any (touch a) l) (any (touch b) l) (some-touch l))
+  where
+    turn : (t x y z : Bool) → ((t || x) || (y || z)) ≡ ((t || y) || (x || z))
+    turn true x y z = refl
+    turn false x y z = or-swap x y z
+touch-moved (next r s) = touch-moved r ∙ touch-moved s
 
 -- none of a list touch exactly when each two are apart
 pub all-apart : (rs : List TpRange) → (some-touch rs ≡ false) ↔ Pairwise Apart rs
@@ -158,7 +216,7 @@ keep-away n (r ∷ rs) e =
     (λ x p. (p .0 .0, (λ _. touch-sym x r ∙ p .1, p .0 .1))) (keep n rs)
     (all-both (λ x. (touch x n ≡ false) × All (Away n x) rs) (λ x. touch r x ≡ false) (keep n rs) (keep-away n rs (h .1)) (all-keep (λ x. touch r x ≡ false) n rs others)))
 
--- what is kept does not touch, nor does what is put behind it
+-- what is kept does not touch, nor does what n has grown to
 keep-apart : (n : TpRange) (rs : List TpRange) → some-touch rs ≡ false → some-touch (keep n rs) ≡ false
 unfolding keep some-touch
 keep-apart n [] e = refl
@@ -170,20 +228,16 @@ keep-apart n (r ∷ rs) e =
     go true p q = q
     go false p q = neither _ _ p q
 
-behind-apart : (xs : List TpRange) (g : TpRange) → some-touch xs ≡ false → All (λ x. touch x g ≡ false) xs → some-touch (xs ++ (g ∷ [])) ≡ false
-unfolding some-touch any
-behind-apart [] g e a = refl
-behind-apart (x ∷ xs) g e a =
-    let h = or-inv (any (touch x) xs) (some-touch xs) e in
-    neither _ _ (any-append (touch x) xs g ∙ neither _ _ (a .0) (h .0)) (behind-apart xs g (h .1) (a .1))
-
 pub joined-apart : (n : TpRange) (rs : List TpRange) → some-touch rs ≡ false → All (λ r. r .start ≤ r .end) rs → some-touch (joined n rs) ≡ false
-unfolding joined
+unfolding some-touch
 joined-apart n rs e w =
-    behind-apart (keep n rs) (grow n n rs) (keep-apart n rs e)
-    (all-map (λ x. ((touch x n ≡ false) × All (Away n x) rs) × (x .start ≤ x .end)) (λ x. touch x (grow n n rs) ≡ false)
-    (λ x q. grow-apart x n rs (q .1) (q .0 .0) (q .0 .1)) (keep n rs)
-    (all-both (λ x. (touch x n ≡ false) × All (Away n x) rs) (λ x. x .start ≤ x .end) (keep n rs) (keep-away n rs e) (all-keep (λ x. x .start ≤ x .end) n rs w)))
+    sym (touch-moved (joined-moved n rs))
+    ∙ neither _ _
+    (all-any (touch (grow n n rs)) (keep n rs)
+    (all-map (λ x. ((touch x n ≡ false) × All (Away n x) rs) × (x .start ≤ x .end)) (λ x. touch (grow n n rs) x ≡ false)
+    (λ x q. touch-sym (grow n n rs) x ∙ grow-apart x n rs (q .1) (q .0 .0) (q .0 .1)) (keep n rs)
+    (all-both (λ x. (touch x n ≡ false) × All (Away n x) rs) (λ x. x .start ≤ x .end) (keep n rs) (keep-away n rs e) (all-keep (λ x. x .start ≤ x .end) n rs w))))
+    (keep-apart n rs e)
 
 -- ---- a test that a hull passes exactly when one of the two passes it: one of the joined ranges passes exactly when the new one or an old one does
 module _ (f : TpRange → Bool) (n : TpRange) (hull : (g r : TpRange) → Around n g → touch n r ≡ true → f (hull-of g r) ≡ (f g || f r)) where
@@ -197,8 +251,8 @@ module _ (f : TpRange → Bool) (n : TpRange) (hull : (g r : TpRange) → Around
       go e false m = or-swap (f (grow n g rs)) (f r) (any f (keep n rs)) ∙ ap (_||_ (f r)) (e g a) ∙ or-swap (f r) (f g) (any f rs)
 
   joined-any : (rs : List TpRange) → any f (joined n rs) ≡ (f n || any f rs)
-  unfolding joined
-  joined-any rs = any-append f (keep n rs) (grow n n rs) ∙ grow-any n rs (le-refl (n .start), le-refl (n .end))
+  unfolding any
+  joined-any rs = sym (any-moved f (joined-moved n rs)) ∙ grow-any n rs (le-refl (n .start), le-refl (n .end))
 
 -- ---- a test that a hull passes where one of the two does: it stays passed
 module _ (f : TpRange → Bool) (n : TpRange) (hull : (g r : TpRange) → (f g ≡ true) ⊎ (f r ≡ true) → f (hull-of g r) ≡ true) where
@@ -216,8 +270,8 @@ module _ (f : TpRange → Bool) (n : TpRange) (hull : (g r : TpRange) → (f g �
           ∙ ⊎-elim (λ e. rw (later g (inl e)) (or-true (f r))) (λ e. ⊎-elim (λ k. rw k) (λ k. rw (later g (inr k)) (or-true (f r))) (or-cases (f r) (any f rs) e)) q
 
   joined-some : (rs : List TpRange) → (f n ≡ true) ⊎ (any f rs ≡ true) → any f (joined n rs) ≡ true
-  unfolding joined
-  joined-some rs o = any-append f (keep n rs) (grow n n rs) ∙ grow-some n rs o
+  unfolding any
+  joined-some rs o = sym (any-moved f (joined-moved n rs)) ∙ grow-some n rs o
 
 pub lies-around : (s : List ℕ) (r : TpRange) → around s r ≡ true → (r .start ≤ offset s) × (end-of s ≤ r .end)
 unfolding around
@@ -326,19 +380,9 @@ keep-moved n (swap {a} {b} {l}) = unless-swap (touch n a) (touch n b) a b (keep 
 keep-moved n (next r s) = next (keep-moved n r) (keep-moved n s)
 
 pub joining-order-unseen : JoiningOrderUnseen
-unfolding joined
-joining-order-unseen n rs qs r = rw (grow-moved n n r) (append-moved (keep-moved n r) (grow n n qs ∷ []))
-
-pub touch-moved : {rs qs : List TpRange} → Rearranged rs qs → some-touch rs ≡ some-touch qs
-unfolding some-touch any
-touch-moved nothing = refl
-touch-moved (first {a} {l} {m} r) = rw (any-moved (touch a) r, touch-moved r)
-touch-moved (swap {a} {b} {l}) = rw (touch-sym a b) (turn (touch b a) (any (touch a) l) (any (touch b) l) (some-touch l))
-  where
-    turn : (t x y z : Bool) → ((t || x) || (y || z)) ≡ ((t || y) || (x || z))
-    turn true x y z = refl
-    turn false x y z = or-swap x y z
-touch-moved (next r s) = touch-moved r ∙ touch-moved s
+joining-order-unseen n rs qs r =
+    let grown : Rearranged (grow n n rs ∷ keep n rs) (grow n n qs ∷ keep n qs) = rw (grow-moved n n r) (first (keep-moved n r)) in
+    next (moved-back (joined-moved n rs)) (next grown (joined-moved n qs))
 
 -- ---- numbers: the hull of two has the hull of what they span, and so on
 unless-unnumbered : (t : Bool) (r : TpRange) (rs : List TpRange) → map unnumbered (unless t r rs) ≡ unless t (unnumbered r) (map unnumbered rs)
@@ -360,13 +404,19 @@ unfolding grow touch
 grow-unnumbered n g [] = refl
 grow-unnumbered n g (r ∷ rs) = grow-unnumbered n (grow-if (touch n r) g r) rs ∙ ap (λ (h : TpRange). grow (unnumbered n) h (map unnumbered rs)) (grow-if-unnumbered (touch n r) g r)
 
-behind-unnumbered : (xs : List TpRange) (g : TpRange) → map unnumbered (xs ++ (g ∷ [])) ≡ map unnumbered xs ++ (unnumbered g ∷ [])
-behind-unnumbered [] g = refl
-behind-unnumbered (x ∷ xs) g = ap (λ (l : List TpRange). unnumbered x ∷ l) (behind-unnumbered xs g)
+inserted-unnumbered : (g : TpRange) (xs : List TpRange) → map unnumbered (inserted g xs) ≡ inserted (unnumbered g) (map unnumbered xs)
+unfolding inserted
+inserted-unnumbered g [] = refl
+inserted-unnumbered g (x ∷ xs) = go (ltb (g .start) (x .start)) (inserted-unnumbered g xs)
+  where
+    go : (t : Bool) → map unnumbered (inserted g xs) ≡ inserted (unnumbered g) (map unnumbered xs)
+        → map unnumbered (cond t (g ∷ x ∷ xs) (x ∷ inserted g xs)) ≡ cond t (unnumbered g ∷ unnumbered x ∷ map unnumbered xs) (unnumbered x ∷ inserted (unnumbered g) (map unnumbered xs))
+    go true later = refl
+    go false later = ap (λ (l : List TpRange). unnumbered x ∷ l) later
 
 pub joined-unnumbered : (n : TpRange) (rs : List TpRange) → map unnumbered (joined n rs) ≡ joined (unnumbered n) (map unnumbered rs)
 unfolding joined
-joined-unnumbered n rs = behind-unnumbered (keep n rs) (grow n n rs) ∙ rw (keep-unnumbered n rs, grow-unnumbered n n rs)
+joined-unnumbered n rs = inserted-unnumbered (grow n n rs) (keep n rs) ∙ rw (keep-unnumbered n rs, grow-unnumbered n n rs)
 
 -- how many there are then does not depend on the new one's number
 pub joined-many : (a b : TpRange) (rs : List TpRange) → unnumbered a ≡ unnumbered b → length (joined a rs) ≡ length (joined b rs)

@@ -8,6 +8,7 @@ pub mod Telling
 pub mod RuleLaws
 pub mod Writing
 pub mod Steps
+pub mod InOrder
 pub mod Numbers
 pub mod Runs
 pub mod Report

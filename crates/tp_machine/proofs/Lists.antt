@@ -1,23 +1,33 @@
 -- Laws of what is said of a list's elements, and of lists in another order. Assumes nothing.
-use Prim.Native.Nat.{ℕ, suc}
+use Prim.Native.Nat.{ℕ, zero, suc, _≤_, _<_}
 use mathlib.Core.Path.{_≡_, refl, sym, ap, subst, _∙_}
 use mathlib.Core.Bool.{Bool, true, false, _||_, cond, or-true, false≢true}
 use mathlib.Core.List.{List, [], _∷_, _++_, append-assoc}
 use mathlib.Core.Logic.{_⊎_, inl, inr, ⊎-elim, _≢_}
 use native.Mathlib.Omega.{arith}
-use lib.ListN.{length}
+use lib.ListN.{length, take, drop, getD}
 use Rattle.numbers.specs.Answers.{All}
-use Rattle.numbers.proofs.AnswerLaws.{all-map}
+use Rattle.numbers.proofs.AnswerLaws.{all-map, all-both}
 use Rattle.numbers.proofs.TestLaws.{neither, or-swap}
 pub use Rattle.numbers.proofs.TestLaws.{or-inv, or-cases, and-inv}
 use Rattle.tp_machine.specs.Ranges.{any}
-use Rattle.tp_machine.specs.Lists.{OneOf, Pairwise, Rearranged, nothing, first, swap, next, Latest}
+use Rattle.tp_machine.specs.Lists.{OneOf, counted, Pairwise, Rearranged, nothing, first, swap, next, Latest}
 
 -- ---- each element
 module _ {A : Type 0} (P : A → Type 0) where
-  pub all-append : (xs : List A) (g : A) → All P xs → P g → All P (xs ++ (g ∷ []))
-  all-append [] g e p = (p, tt)
-  all-append (x ∷ xs) g e p = (e .0, all-append xs g (e .1) p)
+  -- each of two lists, one behind the other
+  all-append : (xs ys : List A) → All P xs → All P ys → All P (xs ++ ys)
+  all-append [] ys e f = f
+  all-append (x ∷ xs) ys e f = (e .0, all-append xs ys (e .1) f)
+
+  pub all-parts : (xs ys : List A) → All P (xs ++ ys) → All P xs × All P ys
+  all-parts [] ys e = (tt, e)
+  all-parts (x ∷ xs) ys e = let later = all-parts xs ys (e .1) in ((e .0, later .0), later .1)
+
+  pub all-at : (xs : List A) (i : ℕ) (d : A) → i < length xs → All P xs → P (getD xs i d)
+  all-at [] i d h e = absurd (omega arith)
+  all-at (x ∷ xs) zero d h e = e .0
+  all-at (x ∷ xs) (suc i) d h e = all-at xs i d (omega arith) (e .1)
 
   pub all-moved : {l m : List A} → Rearranged l m → All P l → All P m
   all-moved nothing e = e
@@ -25,10 +35,32 @@ module _ {A : Type 0} (P : A → Type 0) where
   all-moved swap e = (e .1 .0, (e .0, e .1 .1))
   all-moved (next r s) e = all-moved s (all-moved r e)
 
--- each two, and one more behind them
-pub pairwise-append : {A : Type 0} (R : A → A → Type 0) (xs : List A) (g : A) → Pairwise R xs → All (λ x. R x g) xs → Pairwise R (xs ++ (g ∷ []))
-pairwise-append R [] g p a = (tt, tt)
-pairwise-append R (x ∷ xs) g p a = (all-append (R x) xs g (p .0) (a .0), pairwise-append R xs g (p .1) (a .1))
+-- ---- each two
+module _ {A : Type 0} (R : A → A → Type 0) where
+  -- of two lists, one behind the other
+  pub pairwise-append : (xs ys : List A) → Pairwise R xs → All (λ x. All (R x) ys) xs → Pairwise R ys → Pairwise R (xs ++ ys)
+  pairwise-append [] ys p a q = q
+  pairwise-append (x ∷ xs) ys p a q = (all-append (R x) xs ys (p .0) (a .0), pairwise-append xs ys (p .1) (a .1) q)
+
+  pub pairwise-parts : (xs ys : List A) → Pairwise R (xs ++ ys) → Pairwise R xs × All (λ x. All (R x) ys) xs × Pairwise R ys
+  pairwise-parts [] ys p = (tt, tt, p)
+  pairwise-parts (x ∷ xs) ys p =
+      let here = all-parts (R x) xs ys (p .0) in
+      let later = pairwise-parts xs ys (p .1) in
+      ((here .0, later .0), (here .1, later .1), later .2)
+
+  -- what two that are so related have, where each has P
+  pub pairwise-map : (S : A → A → Type 0) (P : A → Type 0) → ((x y : A) → P x → P y → R x y → S x y) → (xs : List A) → All P xs → Pairwise R xs → Pairwise S xs
+  pairwise-map S P f [] e p = tt
+  pairwise-map S P f (x ∷ xs) e p =
+      (all-map (λ y. P y × R x y) (S x) (λ y h. f x y (e .0) (h .0) (h .1)) xs (all-both P (R x) xs (e .1) (p .0)), pairwise-map S P f xs (e .1) (p .1))
+
+  -- in another order, where they are so related both ways
+  pub pairwise-moved : ((x y : A) → R x y → R y x) → {l m : List A} → Rearranged l m → Pairwise R l → Pairwise R m
+  pairwise-moved both nothing h = h
+  pairwise-moved both (first {a} r) h = (all-moved (R a) r (h .0), pairwise-moved both r (h .1))
+  pairwise-moved both (swap {a} {b}) h = ((both a b (h .0 .0), h .1 .0), (h .0 .1, h .1 .1))
+  pairwise-moved both (next r s) h = pairwise-moved both s (pairwise-moved both r h)
 
 -- ---- one element
 module _ {A : Type 0} (f : A → Bool) where
@@ -54,6 +86,47 @@ module _ {A : Type 0} (f : A → Bool) where
   any-moved (swap {a} {b} {l}) = or-swap (f a) (f b) (any f l)
   any-moved (next r s) = any-moved r ∙ any-moved s
 
+-- ---- how many pass a test
+module _ {A : Type 0} (f : A → Bool) where
+  counted-none : (xs : List A) → All (λ x. f x ≡ false) xs → counted f xs ≡ 0
+  unfolding counted
+  counted-none [] e = refl
+  counted-none (x ∷ xs) e = rw (e .0) (counted-none xs (e .1))
+
+  pub counted-upto : (xs : List A) → counted f xs ≤ length xs
+  unfolding counted
+  counted-upto [] = omega arith
+  counted-upto (x ∷ xs) = go (f x) (counted-upto xs)
+    where
+      go : (t : Bool) → counted f xs ≤ length xs → cond t (suc (counted f xs)) (counted f xs) ≤ suc (length xs)
+      go true h = omega arith
+      go false h = omega arith
+
+  -- where none passes behind one that does not, those that pass stand in front
+  pub counted-parts : (xs : List A) → Pairwise (λ x y. f x ≡ false → f y ≡ false) xs → All (λ x. f x ≡ true) (take (counted f xs) xs) × All (λ x. f x ≡ false) (drop (counted f xs) xs)
+  unfolding counted
+  counted-parts [] p = (tt, tt)
+  counted-parts (x ∷ xs) p = go (f x) refl (counted-parts xs (p .1))
+    where
+      Parts : ℕ → List A → Type 0
+      Parts n l = All (λ x. f x ≡ true) (take n l) × All (λ x. f x ≡ false) (drop n l)
+
+      go : (t : Bool) → f x ≡ t → Parts (counted f xs) xs → Parts (cond t (suc (counted f xs)) (counted f xs)) (x ∷ xs)
+      go true e later = ((e, later .0), later .1)
+      go false e later = let none = all-map (λ y. f x ≡ false → f y ≡ false) (λ y. f y ≡ false) (λ y h. h e) xs (p .0) in rw (counted-none xs none) (tt, (e, none))
+
+-- a test that passes where another does
+pub counted-more : {A : Type 0} (f g : A → Bool) (xs : List A) → All (λ x. f x ≡ true → g x ≡ true) xs → counted f xs ≤ counted g xs
+unfolding counted
+counted-more f g [] e = omega arith
+counted-more f g (x ∷ xs) e = go (f x) (g x) (e .0) (counted-more f g xs (e .1))
+  where
+    go : (s t : Bool) → (s ≡ true → t ≡ true) → counted f xs ≤ counted g xs → cond s (suc (counted f xs)) (counted f xs) ≤ cond t (suc (counted g xs)) (counted g xs)
+    go true true i h = omega arith
+    go true false i h = absurd (false≢true (i refl))
+    go false true i h = omega arith
+    go false false i h = h
+
 -- ---- another order
 module _ {A : Type 0} where
   pub unmoved : (l : List A) → Rearranged l l
@@ -71,12 +144,6 @@ module _ {A : Type 0} where
   length-moved (first r) = ap suc (length-moved r)
   length-moved swap = refl
   length-moved (next r s) = length-moved r ∙ length-moved s
-
-  pub append-moved : {l m : List A} → Rearranged l m → (ys : List A) → Rearranged (l ++ ys) (m ++ ys)
-  append-moved nothing ys = unmoved ys
-  append-moved (first r) ys = first (append-moved r ys)
-  append-moved swap ys = swap
-  append-moved (next r s) ys = next (append-moved r ys) (append-moved s ys)
 
   none-moved : {l m : List A} → Rearranged l m → l ≡ [] → m ≡ []
   none-moved nothing e = refl
@@ -113,10 +180,6 @@ module _ {A : Type 0} where
   each-one [] = tt
   each-one (x ∷ xs) = (inl refl, all-map (λ y. OneOf y xs) (λ y. OneOf y (x ∷ xs)) (λ y o. inr o) xs (each-one xs))
 
-  pub one-behind : (xs : List A) (g : A) → OneOf g (xs ++ (g ∷ []))
-  one-behind [] g = inl refl
-  one-behind (x ∷ xs) g = inr (one-behind xs g)
-
   -- it has what each of them has
   pub one-has : (P : A → Type 0) (xs : List A) (x : A) → All P xs → OneOf x xs → P x
   one-has P [] x a o = absurd o
@@ -137,12 +200,6 @@ module _ {A : Type 0} where
   to-front x (y ∷ ys) (inl e) = (ys, subst (λ (z : A). Rearranged (y ∷ ys) (z ∷ ys)) (sym e) (unmoved (y ∷ ys)))
   to-front x (y ∷ ys) (inr o) = let w = to-front x ys o in (y ∷ w .0, next (first (w .1)) swap)
 
-  distinct-moved : {l m : List A} → Rearranged l m → Pairwise _≢_ l → Pairwise _≢_ m
-  distinct-moved nothing h = h
-  distinct-moved (first {a} r) h = (all-moved (_≢_ a) r (h .0), distinct-moved r (h .1))
-  distinct-moved swap h = (((λ e. h .0 .0 (sym e)), h .1 .0), (h .0 .1, h .1 .1))
-  distinct-moved (next r s) h = distinct-moved s (distinct-moved r h)
-
   others : (x : A) (xs ys : List A) → All (_≢_ x) ys → All (λ y. OneOf y (x ∷ xs)) ys → All (λ y. OneOf y xs) ys
   others x xs [] n o = tt
   others x xs (y ∷ ys) n o = (⊎-elim (λ e. absurd (n .0 (sym e))) (λ k. k) (o .0), others x xs ys (n .1) (o .1))
@@ -153,7 +210,7 @@ module _ {A : Type 0} where
   same-elements [] (y ∷ ys) p q t b = absurd (b .0)
   same-elements (x ∷ xs) ys p q t b =
       let w = to-front x ys (t .0) in
-      let d = distinct-moved (w .1) q in
+      let d = pairwise-moved _≢_ (λ y z n e. n (sym e)) (w .1) q in
       let there = all-map (λ y. OneOf y ys) (λ y. OneOf y (x ∷ w .0)) (λ y. one-of-moved y (w .1)) xs (t .1) in
       let back = all-moved (λ y. OneOf y (x ∷ xs)) (w .1) b in
       next (first (same-elements xs (w .0) (p .1) (d .1) (others x (w .0) xs (p .0) there) (others x xs (w .0) (d .0) (back .1)))) (moved-back (w .1))
@@ -174,12 +231,8 @@ module _ {A : Type 0} (f : A → Bool) where
       go later false h = (x, record { before = []; behind = xs; among = refl; passes = ⊎-elim (λ p. p) (λ p. absurd (false≢true (sym h ∙ p))) (or-cases (f x) (any f xs) e); none = h })
 
   -- it has what each element has
-  all-split : (P : A → Type 0) (before : List A) (x : A) (behind : List A) → All P (before ++ (x ∷ behind)) → P x
-  all-split P [] x behind a = a .0
-  all-split P (y ∷ before) x behind a = all-split P before x behind (a .1)
-
   pub all-latest : (P : A → Type 0) (xs : List A) (x : A) → Latest f xs x → All P xs → P x
-  all-latest P xs x l a = all-split P (l .before) x (l .behind) (subst (All P) (l .among) a)
+  all-latest P xs x l a = all-parts P (l .before) (x ∷ l .behind) (subst (All P) (l .among) a) .1 .0
 
 -- another comes behind: the latest stays so where that one does not pass, else that one is the latest
 module _ {A : Type 0} (f : A → Bool) (xs : List A) (y : A) where

@@ -5,20 +5,19 @@ use mathlib.Core.Bool.{Bool, true, false, true≢false}
 use mathlib.Core.List.{List, [], _∷_, _++_}
 use mathlib.Core.Logic.{_≢_, ⊎-elim}
 use native.Mathlib.Omega.{arith}
-use borrow.Author.Tests.{le-leb}
 use lib.ListN.{length}
 use Rattle.numbers.specs.Answers.{accepted, refused, Verdict, All}
 use Rattle.numbers.proofs.AnswerLaws.{all-map}
 use Rattle.tp_machine.specs.declared.TpRange.{TpRange}
 use Rattle.tp_machine.specs.Lists.{OneOf}
-use Rattle.tp_machine.specs.Segments.{offset, end-of}
-use Rattle.tp_machine.specs.Ranges.{touch, hull-of, grow}
+use Rattle.tp_machine.specs.Ranges.{touch, grow}
 use Rattle.tp_machine.specs.Machine.{State, taken, judged, after, step, begin, clear}
 use Rattle.tp_machine.specs.Meaning.{range, range-of, Fine, Good, Accepted}
 use Rattle.tp_machine.specs.Runs.{begins, comes, clears, around, Numbered, Numbers}
 use Rattle.tp_machine.specs.Theorems.{EveryNumber}
 use Rattle.tp_machine.proofs.Lists.{latest-still, latest-new}
-use Rattle.tp_machine.proofs.Joining.{all-grow, each-joined, pairwise-joined, grown-joined, grow-around, lies-around, is-around}
+use Rattle.tp_machine.proofs.Joining.{each-joined, pairwise-joined, grown-joined, touching, grow-around, lies-around, is-around}
+use Rattle.tp_machine.proofs.InOrder.{grow-number}
 use Rattle.tp_machine.proofs.Tests.{accepted-means}
 use Rattle.tp_machine.proofs.Steps.{never-malformed}
 
@@ -28,26 +27,22 @@ use Rattle.tp_machine.proofs.Steps.{never-malformed}
 held-low : (p : State) → Good p → All (λ r. r .number ≤ p .count) (p .ranges)
 held-low p g = all-map (Fine p) (λ r. r .number ≤ p .count) (λ r f. f .counted) (p .ranges) (g .each)
 
--- so the range that the new one has grown to has the new number
-grown-number : (n : TpRange) (rs : List TpRange) → All (λ r. r .number ≤ n .number) rs → grow n n rs .number ≡ n .number
-unfolding hull-of
-grown-number n rs low = all-grow (λ g. g .number ≡ n .number) (λ r. r .number ≤ n .number) n (λ g r _ e l. omega (arith, e, l)) n rs refl low
-
 module _ (p : State) (seg : List ℕ) (good : Good p) where
   new : TpRange
   new = range-of (p .count + 1) seg
 
+  -- so the range that the new one has grown to has the new number
   new-number : grow new new (p .ranges) .number ≡ p .count + 1
   unfolding new
-  new-number = grown-number new (p .ranges) (all-map (λ r. r .number ≤ p .count) (λ r. r .number ≤ p .count + 1) (λ r h. omega arith) (p .ranges) (held-low p good))
+  new-number = grow-number new (p .ranges) (all-map (λ r. r .number ≤ p .count) (λ r. r .number ≤ p .count + 1) (λ r h. omega arith) (p .ranges) (held-low p good))
 
   -- a segment lies in no range that its own does not touch, and in the one that its own has grown to
   not-within : (r : TpRange) → touch new r ≡ false → around seg r ≡ false
-  unfolding new touch
+  unfolding new
   not-within r m = go (around seg r) refl
     where
       go : (t : Bool) → around seg r ≡ t → around seg r ≡ false
-      go true e = let a = lies-around seg r e in absurd (true≢false (sym (rw (le-leb (offset seg) (r .end) (omega arith), le-leb (r .start) (end-of seg) (omega arith))) ∙ m))
+      go true e = let a = lies-around seg r e in absurd (true≢false (sym (touching new r (omega arith) (omega arith)) ∙ m))
       go false e = e
 
   within : around seg (grow new new (p .ranges)) ≡ true
@@ -67,8 +62,8 @@ module _ (p : State) (seg : List ℕ) (good : Good p) where
   unfolding new
   taken-numbers room t k = record {
     fits = omega (arith, t .number-left);
-    apart = pairwise-joined (λ a b. a .number ≢ b .number) new (p .ranges) (k .apart)
-        (all-map (λ r. r .number ≤ p .count) (λ r. r .number ≢ grow new new (p .ranges) .number) (λ r h e. absurd (omega (arith, new-number))) (p .ranges) (held-low p good));
+    apart = pairwise-joined (λ a b. a .number ≢ b .number) new (λ a b n e. n (sym e)) (p .ranges) (k .apart)
+        (all-map (λ r. r .number ≤ p .count) (λ r. grow new new (p .ranges) .number ≢ r .number) (λ r h e. absurd (omega (arith, new-number))) (p .ranges) (held-low p good));
     latest = λ _. (grow new new (p .ranges), grown-joined new (p .ranges), new-number);
   }
 

@@ -6,6 +6,7 @@ use Rattle.tp_machine.proofs.RuleLaws.{rules-followed}
 use Rattle.tp_machine.proofs.Writing.{header-means}
 use Rattle.tp_machine.proofs.Steps.{every-step, every-taking, empties, bytes-unseen, ranges-depend, never-malformed}
 use Rattle.tp_machine.proofs.Lists.{latest-one}
+use Rattle.tp_machine.proofs.InOrder.{kept-in-order}
 use Rattle.tp_machine.proofs.Numbers.{every-number}
 use Rattle.tp_machine.proofs.Joining.{joining-covers, joining-order-unseen}
 use Rattle.tp_machine.proofs.Greatest.{greatest-means}
@@ -41,6 +42,7 @@ theorems = record {
   never-malformed = never-malformed;
   end-is-greatest = end-is-greatest;
   complete-ends = complete-ends;
+  kept-in-order = kept-in-order;
   every-number = every-number;
   latest-is-one = latest-one;
   every-run = every-run;

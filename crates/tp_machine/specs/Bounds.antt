@@ -178,7 +178,7 @@ pub record Arrivals : Type 0 where
   pub of-two : numbering (after-all (16 more-at 0 ∷ 16 more-at 16 ∷ [])) ≡ record { answer = pass; count = 2; ranges = range 0 32 2 ∷ [] }
   pub of-three : numbering (after-all (16 more-at 32 ∷ 16 more-at 0 ∷ 16 more-at 16 ∷ [])) ≡ record { answer = pass; count = 3; ranges = range 0 48 3 ∷ [] }
   -- a range that is not touched keeps its own
-  pub of-others : numbering (after-all (16 more-at 0 ∷ 16 more-at 64 ∷ 16 more-at 16 ∷ [])) ≡ record { answer = pass; count = 3; ranges = range 64 80 2 ∷ range 0 32 3 ∷ [] }
+  pub of-others : numbering (after-all (16 more-at 0 ∷ 16 more-at 64 ∷ 16 more-at 16 ∷ [])) ≡ record { answer = pass; count = 3; ranges = range 0 32 3 ∷ range 64 80 2 ∷ [] }
   -- one that was there already has come again, and one without a byte has come
   pub again : numbering (after-all (16 more-at 0 ∷ 16 more-at 0 ∷ [])) ≡ record { answer = pass; count = 2; ranges = range 0 16 2 ∷ [] }
   pub empty : numbering (after-all (16 more-at 0 ∷ 0 more-at 16 ∷ [])) ≡ record { answer = pass; count = 2; ranges = range 0 16 2 ∷ [] }

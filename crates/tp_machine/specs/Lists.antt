@@ -1,6 +1,7 @@
 -- What is said of the elements of a list, for the theorems. Assumes nothing: these are definitions.
+use Prim.Native.Nat.{ℕ, suc}
 use mathlib.Core.Path.{_≡_}
-use mathlib.Core.Bool.{Bool, true, false}
+use mathlib.Core.Bool.{Bool, true, false, cond}
 use mathlib.Core.List.{List, [], _∷_, _++_}
 use mathlib.Core.Logic.{_⊎_}
 use Rattle.numbers.specs.Answers.{All}
@@ -10,6 +11,11 @@ use Rattle.tp_machine.specs.Ranges.{any}
 abbrev pub OneOf : {A : Type 0} → A → List A → Type 0
 OneOf x [] = ⊥
 OneOf x (y ∷ ys) = (x ≡ y) ⊎ OneOf x ys
+
+-- how many of a list pass a test
+unfoldable pub counted : {A : Type 0} → (A → Bool) → List A → ℕ
+counted f [] = 0
+counted f (x ∷ xs) = cond (f x) (suc (counted f xs)) (counted f xs)
 
 -- each two elements, at two places, are so related
 abbrev pub Pairwise : {A : Type 0} → (A → A → Type 0) → List A → Type 0

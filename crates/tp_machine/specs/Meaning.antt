@@ -51,6 +51,14 @@ range-of number s = range (offset s) (offset s + size s) number
 abbrev pub Apart : TpRange → TpRange → Type 0
 Apart a b = (a .end < b .start) ⊎ (b .end < a .start)
 
+-- a ends before b begins
+abbrev pub Before : TpRange → TpRange → Type 0
+Before a b = a .end < b .start
+
+-- each ends before those behind it begin
+abbrev pub InOrder : List TpRange → Type 0
+InOrder rs = Pairwise Before rs
+
 -- an end, if known, is at least x
 abbrev pub NotBefore : TpEnd → ℕ → Type 0
 NotBefore Unknown x = Unit {0}

@@ -1,8 +1,8 @@
 -- Ranges and their joining. Assumes nothing: these are definitions.
 use Prim.Native.Nat.{ℕ, min, max}
-use mathlib.Core.Bool.{Bool, true, false, _&&_, _||_}
-use mathlib.Core.List.{List, [], _∷_, _++_}
-use lib.Dec.{leb}
+use mathlib.Core.Bool.{Bool, true, false, _&&_, _||_, cond}
+use mathlib.Core.List.{List, [], _∷_}
+use lib.Dec.{leb, ltb}
 use Rattle.tp_machine.specs.declared.TpRange.{TpRange}
 
 -- whether one element passes the test
@@ -38,9 +38,22 @@ unfoldable pub grow : TpRange → TpRange → List TpRange → TpRange
 grow n g [] = g
 grow n g (r ∷ rs) = grow n (grow-if (touch n r) g r) rs
 
--- the ranges after n has come: those that it does not touch, and it with those that it touches as one
+-- g before the first of them that begins behind it
+unfoldable pub inserted : TpRange → List TpRange → List TpRange
+inserted g [] = g ∷ []
+inserted g (r ∷ rs) = cond (ltb (g .start) (r .start)) (g ∷ r ∷ rs) (r ∷ inserted g rs)
+
+-- the ranges after n has come: those that it does not touch, and it with those that it touches as one, before the first that begins behind it
 unfoldable pub joined : TpRange → List TpRange → List TpRange
-joined n rs = keep n rs ++ (grow n n rs ∷ [])
+joined n rs = inserted (grow n n rs) (keep n rs)
+
+-- r ends before x
+abbrev pub ends-before : ℕ → TpRange → Bool
+ends-before x r = ltb (r .end) x
+
+-- r begins at x or before it
+abbrev pub begins-by : ℕ → TpRange → Bool
+begins-by x r = leb (r .start) x
 
 -- two of a list touch
 unfoldable pub some-touch : List TpRange → Bool

@@ -17,7 +17,7 @@ use Rattle.tp_machine.specs.Ranges.{any, joined, greatest-end}
 use Rattle.tp_machine.specs.Machine.{highest, last-number, State, Out, bad-state, taken, judged, step, begun, begin, opened, fed, clear}
 use Rattle.tp_machine.specs.Taking.{complete, ready, Taken, taking}
 use Rattle.tp_machine.specs.Telling.{range-told, count-told}
-use Rattle.tp_machine.specs.Meaning.{Segment, HeaderOf, range, Good, Greatest, Accepted, Complete, FirstFrom}
+use Rattle.tp_machine.specs.Meaning.{Segment, HeaderOf, range, InOrder, Good, Greatest, Accepted, Complete, FirstFrom}
 use Rattle.tp_machine.specs.Rules.{begin-rules, segment-rules, taking-rules, range-rules, count-rules}
 use Rattle.tp_machine.specs.Runs.{Reached, admitted, holds, covered, spans, brought, Made, Lies, Numbered, Ended, WholeEnds, Filled, Reported, Numbers, SameSet, Same, unnumbered, SamePlaces, Alike}
 use Rattle.tp_machine.specs.Cases.{Cases}
@@ -130,6 +130,11 @@ EndIsGreatest = (p : State) → Reached p → (e : ℕ) → p .end ≡ Known e �
 -- so a complete stream's one range ends at the known end; its number is the count
 abbrev pub CompleteEnds : Type 0
 CompleteEnds = (p : State) → Reached p → complete p ≡ true → (e : ℕ) × (p .end ≡ Known e) × (p .ranges ≡ range 0 e (p .count) ∷ [])
+
+-- joining keeps ranges in order, so those of every state that a run comes to are
+pub record KeptInOrder : Type 0 where
+  pub joins : (n : TpRange) (rs : List TpRange) → n .start ≤ n .end → All (λ r. r .start ≤ r .end) rs → InOrder rs → InOrder (joined n rs)
+  pub reached : (p : State) → Reached p → InOrder (p .ranges)
 
 -- no two ranges have the same number, and where a segment was accepted some range has the latest one's
 abbrev pub EveryNumber : Type 0
@@ -244,6 +249,7 @@ pub record Theorems : Type 0 where
   pub never-malformed : NeverMalformed
   pub end-is-greatest : EndIsGreatest
   pub complete-ends : CompleteEnds
+  pub kept-in-order : KeptInOrder
   pub every-number : EveryNumber
   pub latest-is-one : LatestIsOne
   pub every-run : EveryRun
