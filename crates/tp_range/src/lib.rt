@@ -1,11 +1,12 @@
 // Ranges of a payload that is being joined: which touch, how far they reach, and the joining step over an array by value, of which the first
 // `count` are held. (tp_range.rs)
 ghost use mathlib.Core.Path.{_≡_};
-ghost use Prim.Native.Nat.{min, max};
+ghost use Prim.Native.Nat.{_≤_, _<_, min, max};
 ghost use lib.ListN.{take};
-ghost use Rattle.tp_machine.specs.Ranges.{touch, hull-of, some-touch, greatest-end};
+ghost use Rattle.tp_machine.specs.Ranges.{touch, hull-of, inserted, some-touch, greatest-end};
 ghost use Rattle.tp_machine.specs.Machine.{most};
-ghost use Rattle.tp_range.specs.Joining.{joined-in};
+ghost use Rattle.tp_range.specs.Joining.{placed, joined-in};
+ghost use Rattle.tp_range.specs.Inserting.{place};
 use tp_machine::TpRange;
 
 // How many ranges are held at most.
@@ -33,14 +34,14 @@ fn touches(a: TpRange, b: TpRange) -> bool
 }
 
 // The smaller of two.
-fn least(x: u32, y: u32) -> u32
+pub fn least(x: u32, y: u32) -> u32
     ensures { λ r. ⌜ r ≡ min x y ⌝ }
 {
     if x < y { x } else { y }
 }
 
 // The greater of two.
-fn greatest(x: u32, y: u32) -> u32
+pub fn greatest(x: u32, y: u32) -> u32
     ensures { λ r. ⌜ r ≡ max x y ⌝ }
 {
     if x < y { y } else { x }
@@ -68,8 +69,40 @@ fn places(count: usize) -> usize
     }
 }
 
-// The joining step: the ranges that `new` does not touch, in their order, and then `new` grown by those that it touches.
-// The places behind them stay as they were.
+// How many of the first `count` stand before the first of them that begins behind `start`.
+fn place_of(ranges: [TpRange; MAX_RANGES], count: usize, start: u32) -> usize
+    requires { ⌜ count ≤ most ⌝ }
+    ensures { λ r. ⌜ r ≡ place start (take count ranges) ⌝ }
+{
+    let mut i: usize = 0;
+    while i < count {
+        let r = ranges[i];
+        if start < r.start {
+            return i;
+        }
+        i += 1;
+    }
+    count
+}
+
+// `new` before the first of the first `count` that begins behind it, and those from there on one place further.
+fn insert(ranges: [TpRange; MAX_RANGES], count: usize, new: TpRange) -> [TpRange; MAX_RANGES]
+    requires { ⌜ count < most ⌝ }
+    ensures { λ r. ⌜ r ≡ placed ranges (inserted new (take count ranges)) ⌝ }
+{
+    let at = place_of(ranges, count, new.start);
+    let mut out = ranges;
+    let mut i = count;
+    while at < i {
+        i -= 1;
+        out[i + 1] = ranges[i];
+    }
+    out[at] = new;
+    out
+}
+
+// The joining step: the ranges that `new` does not touch, in their order, and before the first of them that begins behind it `new` grown by those
+// that it touches. The places behind them stay as they were.
 pub fn join(ranges: [TpRange; MAX_RANGES], count: usize, new: TpRange) -> Joined
     ensures { λ r. ⌜ r ≡ joined-in ranges count new ⌝ }
 {
@@ -89,10 +122,9 @@ pub fn join(ranges: [TpRange; MAX_RANGES], count: usize, new: TpRange) -> Joined
         }
     }
     if kept < MAX_RANGES {
-        out[kept] = grown;
         return Joined {
             full: false,
-            ranges: out,
+            ranges: insert(out, kept, grown),
             count: kept + 1,
         };
     }

@@ -10,8 +10,8 @@ use native.Mathlib.Omega.{arith}
 use lib.ListN.{length, take, getD, set, length-append, length-set}
 use Rattle.tp_machine.specs.declared.TpRange.{TpRange}
 use Rattle.tp_machine.specs.Machine.{most}
-use Rattle.tp_machine.specs.Ranges.{touch, hull-of, keep, grow}
-use Rattle.tp_range.specs.Joining.{none, joined-in}
+use Rattle.tp_machine.specs.Ranges.{touch, hull-of, keep, grow, inserted}
+use Rattle.tp_range.specs.Joining.{none, placed, joined-in}
 use Rattle.tp_range.proofs.Laws.{over, over-snoc, keep-touched, keep-apart, grow-touched, grow-apart, joined-room, joined-full}
 use Rattle.tp_range.proofs.join.Statement.{statement}
 use Rattle.tp_range.proofs.join.Tie as tie
@@ -32,9 +32,9 @@ module _
     all : Held new array held out kept grown (min count most)
     all = subst (λ (j : ℕ). Held new array held out kept grown j) (le-antisymm (H .upto) ends ∙ held-is) H
 
-    with-place : kept < most → record { full = false; ranges = set out kept grown; count = kept + 1 } ≡ joined-in array count new
+    with-place : kept < most → record { full = false; ranges = placed out (inserted grown (take kept out)); count = kept + 1 } ≡ joined-in array count new
     with-place h =
-        (λ j. record { full = false; ranges = set (all .lays j) (all .counts j) (all .grows j); count = all .counts j + 1 })
+        (λ j. record { full = false; ranges = placed (all .lays j) (inserted (all .grows j) (take (all .counts j) (all .lays j))); count = all .counts j + 1 })
         ∙ joined-room array count long new (omega (arith, all .counts))
 
     without : most ≤ kept → record { full = true; ranges = array; count = count } ≡ joined-in array count new
@@ -102,11 +102,18 @@ loop-again-2 c =
       grows = inv .grows ∙ sym (grow-apart _ _ _ none h _ e);
     }
 
+room : (c : tie.Then2 Inv-loop μ-loop) → c .before .before .loop .kept < most
+room c = omega arith
+
+insert-requires : tie.Need-insert-requires Inv-loop μ-loop
+insert-requires c κs = room c
+
 returns : tie.Need-returns Inv-loop μ-loop
 returns c =
-    let at-loop = c .before .before in
-    let room : at-loop .loop .kept < most = omega arith in
-    with-place _ _ _ _ _ _ _ _ (long (at-loop .before .before)) (at-loop .loop .inv) (c .before .loop-test .left) (at-loop .before .places .ensures) room
+    let at-end = c .before .before in
+    let at-loop = at-end .before in
+    (λ j. record { full = false; ranges = c .insert .ensures j; count = at-loop .loop .kept + 1 })
+    ∙ with-place _ _ _ _ _ _ _ _ (long (at-loop .before .before)) (at-loop .loop .inv) (at-end .loop-test .left) (at-loop .before .places .ensures) (room (c .before))
 
 returns-2 : tie.Need-returns-2 Inv-loop μ-loop
 returns-2 c =
@@ -134,8 +141,7 @@ join-spec =
     (λ c. search needs)
     (λ c. search needs)
     loop-again-2
-    (λ c. search needs)
-    (λ c. search needs)
+    insert-requires
     (λ c. search needs)
     returns
     returns-2)
