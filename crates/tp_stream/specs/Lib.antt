@@ -1,4 +1,5 @@
 pub mod Stream
+pub mod Judging
 pub mod Telling
 pub mod Promises
 pub mod Record

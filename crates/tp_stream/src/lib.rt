@@ -25,6 +25,7 @@ mod writing; // writing.rt: what is written into the buffer
 mod taking; // taking.rt: answers 38, 37 and 34 of taking
 mod telling; // telling.rt: the count and the ranges with their numbers, answers 38 and 20
 
+pub use judging::judge_header;
 pub use judging::previous_end;
 pub use telling::RangeAnswer;
 pub use telling::accepted;
