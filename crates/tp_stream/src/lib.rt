@@ -27,6 +27,7 @@ mod telling; // telling.rt: the count and the ranges with their numbers, answers
 
 pub use judging::judge_header;
 pub use judging::previous_end;
+pub use malformed::bad_range;
 pub use telling::RangeAnswer;
 pub use telling::accepted;
 pub use telling::range_from;
@@ -149,7 +150,7 @@ fn accept(s: TpStream, seg: &[u8], buf: &mut [u8], header: TpHeader) -> TpStep
 }
 
 // The end that is known after a segment that ends at x: a final one sets it.
-fn end_after(end: TpEnd, more: bool, x: u32) -> TpEnd
+pub fn end_after(end: TpEnd, more: bool, x: u32) -> TpEnd
     ensures { λ r. ⌜ r ≡ cond more end (Known x) ⌝ }
 {
     if more {
