@@ -1,10 +1,16 @@
 -- Laws of what is written into a buffer. Assumes nothing.
 use Prim.Native.Nat.{ℕ, _+_, _≤_, _<_}
 use mathlib.Core.Path.{_≡_, sym, ap, _∙_}
+use mathlib.Core.Bool.{cond}
 use mathlib.Core.List.{List, [], _∷_, _++_, append-assoc}
+use borrow.Author.Tests.{lt-ltb, le-ltb}
+use lib.Dec.{eqb}
 use lib.ListN.{length, take, drop, set, length-set}
 use lib.Seq.{paste, take-length, set-append-left, sets-eq}
-use Rattle.tp_machine.specs.Segments.{pasted}
+use Rattle.numbers.specs.Bytes.{be32}
+use Rattle.tp_machine.specs.Segments.{offset, payload, size, end-of, header, pasted, written}
+use Rattle.tp_machine.specs.Machine.{highest}
+use Rattle.tp_stream.specs.Writing.{written-at, length-put}
 
 -- the copy of all of s
 pub paste-all : (d : List ℕ) (at : ℕ) (s : List ℕ) → paste d at s (length s) ≡ pasted d at s
@@ -20,3 +26,38 @@ head-pasted d s i v h = set-append-left s (drop (0 + length s) d) i v h ∙ ap (
 pub four : (buf : List ℕ) (a b c d : ℕ) → 8 ≤ length buf → set (set (set (set buf 4 a) 5 b) 6 c) 7 d ≡ pasted buf 4 (a ∷ b ∷ c ∷ d ∷ [])
 unfolding pasted
 four buf a b c d h = sets-eq (a ∷ b ∷ c ∷ d ∷ []) buf 4 h ∙ append-assoc (take 4 buf) (a ∷ b ∷ c ∷ d ∷ []) (drop 8 buf)
+
+-- ---- a segment at an offset: too short, too long for the buffer, or written
+module _ (buf : List ℕ) (at : ℕ) (seg : List ℕ) where
+  pub no-segment : length seg < 20 → buf ≡ written-at buf at seg
+  unfolding written-at
+  no-segment h = rw (lt-ltb (length seg) 20 h)
+
+  module _ (long : 20 ≤ length seg) where
+    pub no-room : length buf < 16 + (at + size seg) → buf ≡ written-at buf at seg
+    unfolding written-at
+    no-room h = rw (le-ltb (length seg) 20 long, lt-ltb (length buf) (16 + (at + size seg)) h)
+
+    pub written-there : 16 + (at + size seg) ≤ length buf → pasted (cond (eqb at 0) (pasted buf 0 (header seg)) buf) (16 + at) (payload seg) ≡ written-at buf at seg
+    unfolding written-at
+    written-there h = rw (le-ltb (length seg) 20 long, le-ltb (length buf) (16 + (at + size seg)) h)
+
+-- where it fits at its own offset it is what the machine writes
+pub written-fits : (buf seg : List ℕ) → 20 ≤ length seg → 16 + end-of seg ≤ length buf → written-at buf (offset seg) seg ≡ written buf seg
+unfolding written
+written-fits buf seg long fits = sym (written-there buf (offset seg) seg long fits)
+
+-- ---- the length field: no place for it, an end past the highest limit, or written
+module _ (buf : List ℕ) (end : ℕ) where
+  pub no-field : length buf < 8 → buf ≡ length-put buf end
+  unfolding length-put
+  no-field h = rw (lt-ltb (length buf) 8 h)
+
+  module _ (long : 8 ≤ length buf) where
+    pub end-too-high : highest < end → buf ≡ length-put buf end
+    unfolding length-put
+    end-too-high h = rw (le-ltb (length buf) 8 long, lt-ltb highest end h)
+
+    pub length-fits : end ≤ highest → length-put buf end ≡ pasted buf 4 (be32 (end + 8))
+    unfolding length-put
+    length-fits h = rw (le-ltb (length buf) 8 long, le-ltb highest end h)

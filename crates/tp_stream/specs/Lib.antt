@@ -1,5 +1,6 @@
 pub mod Stream
 pub mod Judging
+pub mod Writing
 pub mod Telling
 pub mod Promises
 pub mod Record

@@ -31,6 +31,8 @@ pub use malformed::bad_range;
 pub use telling::RangeAnswer;
 pub use telling::accepted;
 pub use telling::range_from;
+pub use writing::put_length;
+pub use writing::write;
 
 // The highest payload limit.
 pub const MAX_LIMIT: u32 = 65520;
@@ -133,7 +135,7 @@ fn accept(s: TpStream, seg: &[u8], buf: &mut [u8], header: TpHeader) -> TpStep
             stream: s,
         };
     }
-    writing::write(buf, seg, header.offset as usize);
+    writing::write(buf, seg, header.offset);
     let ranges = joined.ranges;
     let before = s.end;
     let end = end_after(before, header.more, new.end);

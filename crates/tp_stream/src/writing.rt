@@ -2,9 +2,8 @@
 ghost use mathlib.Core.Path.{_≡_};
 ghost use Prim.Native.Nat.{_+_, _≤_};
 ghost use lib.ListN.{length};
-ghost use Rattle.numbers.specs.Bytes.{be32};
-ghost use Rattle.tp_machine.specs.Machine.{highest};
-ghost use Rattle.tp_machine.specs.Segments.{offset as offset-of, end-of, without-tp, header, pasted, written};
+ghost use Rattle.tp_machine.specs.Segments.{without-tp, header, pasted};
+ghost use Rattle.tp_stream.specs.Writing.{written-at, length-put};
 use tp_segment::HEADER_LEN;
 use tp_segment::SEGMENT_HEADER_LEN;
 
@@ -36,22 +35,36 @@ fn put_header(buf: &mut [u8], seg: &[u8])
     buf[14] = without_tp(seg[14]);
 }
 
-// The payload of a segment at `offset`, and for an offset of 0 its header too.
-pub(crate) fn write(buf: &mut [u8], seg: &[u8], offset: usize)
-    requires { ⌜ (20 ≤ length (now seg)) × (offset ≡ offset-of (now seg)) × (16 + end-of (now seg) ≤ length (now buf)) ⌝ }
-    ensures { λ _. ⌜ now (buf .exit) ≡ written (now (buf .entry)) (now (seg .entry)) ⌝ }
+// The payload of a segment at `offset`, and for an offset of 0 its header too; nothing where that does not fit.
+pub fn write(buf: &mut [u8], seg: &[u8], offset: u32)
+    ensures { λ _. ⌜ now (buf .exit) ≡ written-at (now (buf .entry)) offset (now (seg .entry)) ⌝ }
 {
+    let at = HEADER_LEN + offset as usize;
+    if seg.len() < SEGMENT_HEADER_LEN {
+        return;
+    }
+    if buf.len() < at {
+        return;
+    }
+    if buf.len() - at < seg.len() - SEGMENT_HEADER_LEN {
+        return;
+    }
     if offset == 0 {
         put_header(buf, seg);
     }
-    put(buf, HEADER_LEN + offset, &seg[SEGMENT_HEADER_LEN..]);
+    put(buf, at, &seg[SEGMENT_HEADER_LEN..]);
 }
 
-// The length field, bytes 4 to 7, of a report whose payload ends at `end`.
-pub(crate) fn put_length(buf: &mut [u8], end: usize)
-    requires { ⌜ (8 ≤ length (now buf)) × (end ≤ highest) ⌝ }
-    ensures { λ _. ⌜ now (buf .exit) ≡ pasted (now (buf .entry)) 4 (be32 (end + 8)) ⌝ }
+// The length field, bytes 4 to 7, of a report whose payload ends at `end`; nothing where the buffer has none, or past the highest limit.
+pub fn put_length(buf: &mut [u8], end: usize)
+    ensures { λ _. ⌜ now (buf .exit) ≡ length-put (now (buf .entry)) end ⌝ }
 {
+    if buf.len() < 8 {
+        return;
+    }
+    if (crate::MAX_LIMIT as usize) < end {
+        return;
+    }
     let n = end + 8;
     let high = n / 65536;
     let low = n % 65536;
