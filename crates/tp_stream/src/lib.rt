@@ -28,6 +28,8 @@ mod telling; // telling.rt: the count and the ranges with their numbers, answers
 pub use judging::judge_header;
 pub use judging::previous_end;
 pub use malformed::bad_range;
+pub use taking::ready_of;
+pub use taking::whole;
 pub use telling::RangeAnswer;
 pub use telling::accepted;
 pub use telling::range_from;
@@ -168,7 +170,10 @@ pub fn complete(s: TpStream) -> bool
     if malformed::malformed(s) {
         return false;
     }
-    taking::whole(s)
+    let end = s.end;
+    let ranges = s.ranges;
+    let first = ranges[0];
+    taking::whole(end, s.count, first)
 }
 
 // Taking the report: answers 38, 37 and 34, or the length field is written and where the payload ends is told.
