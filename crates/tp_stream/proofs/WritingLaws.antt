@@ -3,10 +3,11 @@ use Prim.Native.Nat.{ℕ, _+_, _≤_, _<_}
 use mathlib.Core.Path.{_≡_, sym, ap, _∙_}
 use mathlib.Core.Bool.{cond}
 use mathlib.Core.List.{List, [], _∷_, _++_, append-assoc}
+use native.Mathlib.Numerals.{add-one}
 use borrow.Author.Tests.{lt-ltb, le-ltb}
 use lib.Dec.{eqb}
-use lib.ListN.{length, take, drop, set, length-set}
-use lib.Seq.{paste, take-length, set-append-left, sets-eq}
+use lib.ListN.{length, take, drop, set, getD, length-set}
+use lib.Seq.{paste, paste-suc, take-suc, take-suc-set, take-length, set-append-left, sets-eq}
 use Rattle.numbers.specs.Bytes.{be32}
 use Rattle.tp_machine.specs.Segments.{offset, payload, size, end-of, header, pasted, written}
 use Rattle.tp_machine.specs.Machine.{highest}
@@ -16,6 +17,21 @@ use Rattle.tp_stream.specs.Writing.{written-at, length-put}
 pub paste-all : (d : List ℕ) (at : ℕ) (s : List ℕ) → paste d at s (length s) ≡ pasted d at s
 unfolding pasted
 paste-all d at s = ap (λ (l : List ℕ). take at d ++ l ++ drop (at + length s) d) (take-length s) ∙ append-assoc (take at d) s (drop (at + length s) d)
+
+-- the copy of all of s by way of another list that begins with it
+pub paste-by : (d few : List ℕ) (at : ℕ) (s : List ℕ) → take (length s) few ≡ take (length s) s → paste d at few (length s) ≡ pasted d at s
+paste-by d few at s e = ap (λ (l : List ℕ). take at d ++ l ++ drop (at + length s) d) e ∙ paste-all d at s
+
+-- one byte more is copied
+pub paste-more : (d now : List ℕ) (at : ℕ) (s : List ℕ) (i : ℕ) → at + i < length d → i < length s → now ≡ paste d at s i → set now (at + i) (getD s i 0) ≡ paste d at s (i + 1)
+paste-more d now at s i h g is =
+    ap (λ (l : List ℕ). set l (at + i) (getD s i 0)) is ∙ paste-suc d at s i 0 h g ∙ ap (paste d at s) (sym (add-one i))
+
+-- a list that begins with the first i of s, and takes one more
+pub front-more : (few s : List ℕ) (i : ℕ) → i < length few → i < length s → take i few ≡ take i s → take (i + 1) (set few i (getD s i 0)) ≡ take (i + 1) s
+front-more few s i f g e =
+    ap (λ (n : ℕ). take n (set few i (getD s i 0))) (add-one i) ∙ take-suc-set few i (getD s i 0) f ∙ ap (λ (l : List ℕ). l ++ (getD s i 0 ∷ [])) e
+    ∙ sym (ap (λ (n : ℕ). take n s) (add-one i) ∙ take-suc s i 0 g)
 
 -- a store within what was copied to the front
 pub head-pasted : (d s : List ℕ) (i v : ℕ) → i < length s → set (pasted d 0 s) i v ≡ pasted d 0 (set s i v)

@@ -7,8 +7,30 @@ ghost use Rattle.tp_stream.specs.Writing.{written-at, length-put};
 use tp_segment::HEADER_LEN;
 use tp_segment::SEGMENT_HEADER_LEN;
 
-// Copies src into buf from index `at`.
-fn put(buf: &mut [u8], at: usize, src: &[u8])
+// How many bytes are copied at once.
+const MOST: usize = 2048;
+
+// Copies a few bytes into buf from index `at`. They go by way of an array of its own, which shares no byte with either slice: so the compiler sees
+// that all are read before any is written, leaves the array out, and makes one `memmove` of both loops.
+fn put_few(buf: &mut [u8], at: usize, src: &[u8])
+    requires { ⌜ (length (now src) ≤ 2048) × (at + length (now src) ≤ length (now buf)) ⌝ }
+    ensures { λ _. ⌜ now (buf .exit) ≡ pasted (now (buf .entry)) at (now (src .entry)) ⌝ }
+{
+    let mut few = [0; MOST];
+    let mut i: usize = 0;
+    while i < src.len() {
+        few[i] = src[i];
+        i += 1;
+    }
+    let mut j: usize = 0;
+    while j < src.len() {
+        buf[at + j] = few[j];
+        j += 1;
+    }
+}
+
+// Copies any number of bytes into buf from index `at`, one after the other.
+fn put_each(buf: &mut [u8], at: usize, src: &[u8])
     requires { ⌜ at + length (now src) ≤ length (now buf) ⌝ }
     ensures { λ _. ⌜ now (buf .exit) ≡ pasted (now (buf .entry)) at (now (src .entry)) ⌝ }
 {
@@ -17,6 +39,18 @@ fn put(buf: &mut [u8], at: usize, src: &[u8])
         buf[at + i] = src[i];
         i += 1;
     }
+}
+
+// Copies src into buf from index `at`.
+fn put(buf: &mut [u8], at: usize, src: &[u8])
+    requires { ⌜ at + length (now src) ≤ length (now buf) ⌝ }
+    ensures { λ _. ⌜ now (buf .exit) ≡ pasted (now (buf .entry)) at (now (src .entry)) ⌝ }
+{
+    if MOST < src.len() {
+        put_each(buf, at, src);
+        return;
+    }
+    put_few(buf, at, src);
 }
 
 // A message type with 0x20 cleared.
