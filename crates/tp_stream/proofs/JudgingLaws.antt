@@ -7,8 +7,10 @@ use native.Mathlib.Omega.{arith}
 use borrow.Author.Tests.{lt-ltb, le-ltb, ltb-true, ltb-false}
 use lib.Dec.{ltb, eqb}
 use lib.ListN.{length, take}
-use Rattle.numbers.specs.Refusals.{not-a-segment, segment-too-big, unaligned, conflicting-end, buffer-too-short, malformed-state}
-use Rattle.numbers.specs.Answers.{refused, refuse_when_else_}
+use Rattle.numbers.specs.Refusals as paper
+use Rattle.numbers.specs.Refusals.{not-a-segment, segment-too-big, unaligned, conflicting-end, buffer-too-short, ranges-full, malformed-state, count-full}
+use Rattle.numbers.specs.Answers.{refused, Verdict, pass, _>>_, refuse_when_else_}
+use Rattle.numbers.proofs.AnswerLaws.{when-pass, when-accepted, then-pass}
 use Rattle.refusal.specs.declared.Refusal.{Refusal}
 use Rattle.refusal.specs.Said.{said}
 use Rattle.tp_machine.specs.declared.TpRange.{TpRange}
@@ -16,7 +18,8 @@ use Rattle.tp_machine.specs.declared.TpEnd.{TpEnd}
 use Rattle.tp_machine.specs.declared.TpEnd.the-variants.{Known}
 use Rattle.tp_machine.specs.Segments.{is-segment, more, end-of}
 use Rattle.tp_machine.specs.Ranges.{greatest-end}
-use Rattle.tp_machine.specs.Machine.{most, State, bad-state, conflicts, previous, data-past, judged}
+use Rattle.tp_machine.specs.Machine.{most, State, bad-state, conflicts, previous, data-past, too-many, counted-out, judged}
+use Rattle.tp_machine.specs.Meaning.{Good}
 use Rattle.tp_segment.specs.declared.TpHeader.{TpHeader}
 use Rattle.tp_segment.specs.declared.SegmentAnswer.{SegmentAnswer}
 use Rattle.tp_segment.specs.declared.SegmentAnswer.the-variants as segment
@@ -25,6 +28,7 @@ use Rattle.tp_segment.proofs.Laws.{reading-not}
 use Rattle.tp_machine.proofs.Tests.{segment-means, good-means}
 use Rattle.tp_stream.specs.declared.TpStream.{TpStream}
 use Rattle.tp_stream.specs.Stream.{view}
+use Rattle.tp_stream.specs.Judging.{header-judged}
 use Rattle.tp_stream.specs.Promises.{Passed, Judges}
 use Rattle.tp_stream.proofs.StreamLaws.{held-length, held-take}
 
@@ -50,21 +54,12 @@ module _ (end : TpEnd) (e : ℕ) (more : Bool) (x : ℕ) (q : end ≡ Known e) w
   pub conflict-last : x ≤ e → more ≡ false → conflicts end more x ≡ not (eqb x e)
   conflict-last h m = rw (q, le-ltb e x h, m)
 
--- 33: how far a segment has to reach
-module _ (rs : List TpRange) (more : Bool) (x n : ℕ) (q : n ≡ cond more 0 (greatest-end rs)) where
-  pub data-hit : x < n → (data-past rs more x ≡ true) × (n ≡ greatest-end rs)
-  data-hit h = go more q
-    where
-      go : (m : Bool) → n ≡ cond m 0 (greatest-end rs) → (data-past rs m x ≡ true) × (n ≡ greatest-end rs)
-      go true e = absurd (omega arith)
-      go false e = (lt-ltb x (greatest-end rs) (omega arith), e)
-
-  pub data-miss : n ≤ x → data-past rs more x ≡ false
-  data-miss h = go more q
-    where
-      go : (m : Bool) → n ≡ cond m 0 (greatest-end rs) → data-past rs m x ≡ false
-      go true e = refl
-      go false e = le-ltb x (greatest-end rs) (omega arith)
+-- 33: to reach less far than it has to is the machine's test of the data
+reach-test : (rs : List TpRange) (more : Bool) (x : ℕ) (t : Verdict)
+    → (refuse conflicting-end (greatest-end rs) x when data-past rs more x else t) ≡ (refuse conflicting-end (cond more 0 (greatest-end rs)) x when ltb x (cond more 0 (greatest-end rs)) else t)
+unfolding refuse_when_else_
+reach-test rs true x t = rw (le-ltb x 0 (omega arith))
+reach-test rs false x t = refl
 
 -- the ranges of a stream's record that is not malformed are the first of its array
 pub least-held : (s : TpStream) (more : Bool) (n : ℕ) → bad-state (view s) ≡ false → length (s .ranges) ≡ most → n ≡ cond more 0 (greatest-end (take (s .count) (s .ranges))) → n ≡ cond more 0 (greatest-end (view s .ranges))
@@ -88,49 +83,74 @@ module _ (p : State) (seg : List ℕ) (room : ℕ) where
       let n = reading-not seg (said r) (ap segment-said (sym e) ∙ q) in
       subst (Judges p seg room) (sym e) (judged-not m (n .0) ∙ ap refused (sym (n .1)))
 
--- the tests by what the header says: 31, 32, 33, 33, 34
-abbrev pub past : State → TpHeader → Bool
-past p h = ltb (p .limit) (h .offset + h .size)
+-- ---- the tests of a header in their order
+module _ (limit : ℕ) (end : TpEnd) (least : ℕ) (h : TpHeader) (room : ℕ) where
+  pub header-past : ltb limit (h .offset + h .size) ≡ true → refused (segment-too-big (h .offset) (h .size) limit) ≡ header-judged limit end least h room
+  unfolding header-judged refuse_when_else_
+  header-past a = rw a
 
-abbrev pub uneven : TpHeader → Bool
-uneven h = h .more && not (eqb (h .size % 16) 0)
+  module _ (within : ltb limit (h .offset + h .size) ≡ false) where
+    pub header-uneven : (h .more && not (eqb (h .size % 16) 0)) ≡ true → refused (unaligned (h .offset) (h .size)) ≡ header-judged limit end least h room
+    unfolding header-judged refuse_when_else_
+    header-uneven a = rw (within, a)
 
-abbrev pub clash : State → TpHeader → Bool
-clash p h = conflicts (p .end) (h .more) (h .offset + h .size)
+    module _ (even : (h .more && not (eqb (h .size % 16) 0)) ≡ false) where
+      pub header-clash : conflicts end (h .more) (h .offset + h .size) ≡ true → refused (conflicting-end (previous end) (h .offset + h .size)) ≡ header-judged limit end least h room
+      unfolding header-judged refuse_when_else_
+      header-clash a = rw (within, even, a)
 
-abbrev pub least : State → TpHeader → ℕ
-least p h = cond (h .more) 0 (greatest-end (p .ranges))
+      module _ (agrees : conflicts end (h .more) (h .offset + h .size) ≡ false) where
+        pub header-behind : h .offset + h .size < least → refused (conflicting-end least (h .offset + h .size)) ≡ header-judged limit end least h room
+        unfolding header-judged refuse_when_else_
+        header-behind a = rw (within, even, agrees, lt-ltb (h .offset + h .size) least a)
 
-abbrev pub needs : TpHeader → ℕ
-needs h = 16 + (h .offset + h .size)
+        module _ (reaches : least ≤ h .offset + h .size) where
+          pub header-short : room < 16 + (h .offset + h .size) → refused (buffer-too-short (16 + (h .offset + h .size))) ≡ header-judged limit end least h room
+          unfolding header-judged refuse_when_else_
+          header-short a = rw (within, even, agrees, le-ltb (h .offset + h .size) least reaches, lt-ltb room (16 + (h .offset + h .size)) a)
 
--- what each of them decides
-pub record Decides (p : State) (seg : List ℕ) (room : ℕ) (h : TpHeader) : Type 0 where
-  pub big : past p h ≡ true → judged p seg room ≡ refused (segment-too-big (h .offset) (h .size) (p .limit))
-  pub unaligned-first : past p h ≡ false → uneven h ≡ true → judged p seg room ≡ refused (unaligned (h .offset) (h .size))
-  pub conflict : past p h ≡ false → uneven h ≡ false → clash p h ≡ true → judged p seg room ≡ refused (conflicting-end (previous (p .end)) (h .offset + h .size))
-  pub behind : past p h ≡ false → uneven h ≡ false → clash p h ≡ false → (n : ℕ) → n ≡ least p h → h .offset + h .size < n → judged p seg room ≡ refused (conflicting-end n (h .offset + h .size))
-  pub short : past p h ≡ false → uneven h ≡ false → clash p h ≡ false → least p h ≤ h .offset + h .size → (n : ℕ) → n ≡ needs h → room < n → judged p seg room ≡ refused (buffer-too-short n)
-  pub passes : past p h ≡ false → uneven h ≡ false → clash p h ≡ false → least p h ≤ h .offset + h .size → needs h ≤ room → Passed p seg room h
+          pub header-fits : 16 + (h .offset + h .size) ≤ room → pass ≡ header-judged limit end least h room
+          unfolding header-judged refuse_when_else_
+          header-fits a = rw (within, even, agrees, le-ltb (h .offset + h .size) least reaches, le-ltb room (16 + (h .offset + h .size)) a)
 
-module _ (p : State) (seg : List ℕ) (room : ℕ) (m : bad-state p ≡ false) (g : is-segment seg ≡ true) where
-  of-header : Decides p seg room (header-of seg)
-  unfolding judged refuse_when_else_
-  of-header = record {
-    big = λ a. rw (m, g, a);
-    unaligned-first = λ a b. rw (m, g, a, b);
-    conflict = λ a b c. rw (m, g, a, b, c);
-    behind = λ a b c n e d. let h = data-hit (p .ranges) (more seg) (end-of seg) n e d in rw (m, g, a, b, c, h .0) (ap (λ (x : ℕ). refused (conflicting-end x (end-of seg))) (sym (h .1)));
-    short = λ a b c f n e d. rw (m, g, a, b, c, data-miss (p .ranges) (more seg) (end-of seg) _ refl f, ← e, lt-ltb room n d);
-    passes = λ a b c f d. record {
-      good = good-means p .0 m;
-      header = refl;
-      long = segment-means seg .0 g .long;
-      low = omega (arith, ltb-false (p .limit) (end-of seg) a, good-means p .0 m .low);
-      fits = d;
-      rest = rw (m, g, a, b, c, data-miss (p .ranges) (more seg) (end-of seg) _ refl f, le-ltb room (16 + end-of seg) d);
-    };
-  }
+-- ---- they are the machine's, and behind them it has those after joining
+when-then : (r : paper.Refusal) (b : Bool) (v t : Verdict) → ((refuse r when b else v) >> t) ≡ (refuse r when b else (v >> t))
+unfolding refuse_when_else_ _>>_
+when-then r true v t = refl
+when-then r false v t = refl
 
-  pub decides : (h : TpHeader) → h ≡ header-of seg → Decides p seg room h
-  decides h q = subst (Decides p seg room) (sym q) of-header
+module _ (p : State) (seg : List ℕ) (room : ℕ) where
+  abbrev pub by-header : Verdict
+  by-header = header-judged (p .limit) (p .end) (cond (more seg) 0 (greatest-end (p .ranges))) (header-of seg) room
+
+  abbrev after-joining : Verdict
+  after-joining = refuse ranges-full when too-many p seg else refuse count-full when counted-out p else pass
+
+  module _ (good : Good p) (g : is-segment seg ≡ true) where
+    first-header : judged p seg room ≡ (by-header >> after-joining)
+    unfolding judged header-judged
+    first-header =
+        when-pass malformed-state (bad-state p) _ (good-means p .1 good)
+        ∙ when-pass not-a-segment (not (is-segment seg)) _ (ap not g)
+        ∙ sym (simp (when-then, then-pass, ← reach-test))
+
+    pub header-passed : by-header ≡ pass → Passed p seg room (header-of seg)
+    unfolding header-judged
+    header-passed e =
+        let a = when-accepted _ _ _ tt e in
+        let b = when-accepted _ _ _ tt (a .1) in
+        let c = when-accepted _ _ _ tt (b .1) in
+        let d = when-accepted _ _ _ tt (c .1) in
+        let f = when-accepted _ _ _ tt (d .1) in
+        record {
+          good = good;
+          header = refl;
+          long = segment-means seg .0 g .long;
+          low = omega (arith, ltb-false (p .limit) (end-of seg) (a .0), good .low);
+          fits = ltb-false room (16 + end-of seg) (f .0);
+          rest = first-header ∙ then-pass by-header after-joining e;
+        }
+
+    pub header-refused : (r : paper.Refusal) → by-header ≡ refused r → judged p seg room ≡ refused r
+    unfolding _>>_
+    header-refused r e = first-header ∙ ap (λ (v : Verdict). v >> after-joining) e

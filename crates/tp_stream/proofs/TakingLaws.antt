@@ -1,31 +1,35 @@
 -- Laws of taking a report. Assumes nothing.
 use Prim.Native.Nat.{ℕ, _+_, _≤_, _<_}
 use mathlib.Core.Path.{_≡_, refl, sym, ap, _∙_}
-use mathlib.Core.Bool.{true, false, _&&_}
+use mathlib.Core.Bool.{Bool, true, false, _&&_, not}
 use mathlib.Core.List.{List, [], _∷_}
 use native.Mathlib.Omega.{arith}
-use borrow.Author.Tests.{lt-ltb, le-ltb}
-use lib.Dec.{eqb}
+use borrow.Author.Tests.{lt-ltb, le-ltb, eqb-true, eqb-false, ne-eqb}
+use lib.Dec.{ltb, eqb}
 use lib.ListN.{length, take, getD}
+use lib.Seq.{length-take-le}
 use Rattle.numbers.specs.Bytes.{be32}
 use Rattle.numbers.specs.Refusals.{buffer-too-short, not-complete, malformed-state}
 use Rattle.numbers.specs.Answers.{Answer, accepted, refused, refuse_when_else_}
+use Rattle.numbers.proofs.AnswerLaws.{when-hit, when-pass}
 use Rattle.refusal.specs.declared.Refusal.{Refusal}
 use Rattle.refusal.specs.declared.answers.Count.{Count}
 use Rattle.refusal.specs.declared.answers.Count.the-variants.{Good, Refused}
 use Rattle.refusal.specs.Said.{count-said}
 use Rattle.tp_range.specs.Joining.{none}
 use Rattle.tp_machine.specs.declared.TpRange.{TpRange}
+use Rattle.tp_machine.specs.declared.TpEnd.{TpEnd}
 use Rattle.tp_machine.specs.declared.TpEnd.the-variants.{Known}
 use Rattle.tp_machine.specs.Segments.{pasted}
-use Rattle.tp_machine.specs.Machine.{State, bad-state}
+use Rattle.tp_machine.specs.Machine.{most, State, bad-state}
 use Rattle.tp_machine.specs.Taking.{is-known, whole, complete, end-held, ready, finished, taking}
 use Rattle.tp_machine.proofs.Lists.{and-inv}
-use Rattle.tp_machine.proofs.Tests.{whole-means}
 use Rattle.tp_stream.specs.declared.TpStream.{TpStream}
-use Rattle.tp_stream.specs.Stream.{held, view}
+use Rattle.tp_stream.specs.Stream.{view}
+use Rattle.tp_stream.specs.Taking.{one-whole, one-ready}
 use Rattle.tp_stream.specs.Promises.{Took}
-use Rattle.tp_stream.proofs.StreamLaws.{held-length, held-take}
+use Rattle.tp_stream.proofs.StreamLaws.{held-take}
+use Rattle.tp_stream.proofs.TellingLaws.{few}
 
 not-one : (rs : List TpRange) → (length rs ≡ 1 → ⊥) → whole rs ≡ false
 not-one [] h = refl
@@ -36,48 +40,81 @@ front : (rs : List TpRange) → 0 < length rs → take 1 rs ≡ getD rs 0 none �
 front [] h = absurd (omega arith)
 front (r ∷ rs) h = refl
 
--- a stream with a known end, by the number of its ranges
-module _ (s : TpStream) (e : ℕ) (k : s .end ≡ Known e) where
-  pub whole-many : (s .count ≡ 1 → ⊥) → (is-known (s .end) && whole (held (s .count) (s .ranges))) ≡ false
-  whole-many n = rw (k, not-one (held (s .count) (s .ranges)) (λ q. n (sym (held-length (s .count) (s .ranges)) ∙ q)))
+-- the first n of an array are one range from 0 where n is 1 and the first of them is that
+whole-taken : (n : ℕ) (array : List TpRange) → n ≤ length array → 1 ≤ length array → whole (take n array) ≡ (eqb n 1 && eqb (getD array 0 none .start) 0)
+whole-taken n array few some = go (eqb n 1) refl
+  where
+    go : (b : Bool) → eqb n 1 ≡ b → whole (take n array) ≡ (b && eqb (getD array 0 none .start) 0)
+    go true e = rw (eqb-true n 1 e, front array some)
+    go false e = not-one (take n array) (λ q. eqb-false n 1 e (sym (length-take-le n array few) ∙ q))
 
-  pub whole-first : s .count ≡ 1 → 0 < length (s .ranges) → (is-known (s .end) && whole (held (s .count) (s .ranges))) ≡ eqb (getD (s .ranges) 0 none .start) 0
-  whole-first n l = rw (k, n, held-take 1 (s .ranges) l, front (s .ranges) l)
+-- ---- with a known end, by the number of the ranges
+module _ (end : TpEnd) (e : ℕ) (k : end ≡ Known e) (count : ℕ) (first : TpRange) where
+  pub whole-many : (count ≡ 1 → ⊥) → false ≡ one-whole end count first
+  whole-many n = rw (k, ne-eqb count 1 n)
 
--- ---- 38, 37, 34 or the end, by the tests in their order
-module _ (p : State) (room : ℕ) where
-  pub ready-bad : bad-state p ≡ true → refused malformed-state ≡ ready p room
-  unfolding ready refuse_when_else_
-  ready-bad m = rw m
+  pub whole-first : count ≡ 1 → eqb (first .start) 0 ≡ one-whole end count first
+  whole-first n = rw (k, n)
 
-  module _ (m : bad-state p ≡ false) where
-    pub complete-whole : (is-known (p .end) && whole (p .ranges)) ≡ complete p
-    unfolding complete
-    complete-whole = rw m
+-- ---- 37, 34 or the end, by the tests in their order
+module _ (end : TpEnd) (count : ℕ) (first : TpRange) (room : ℕ) where
+  pub one-not : one-whole end count first ≡ false → refused not-complete ≡ one-ready end count first room
+  unfolding one-ready refuse_when_else_
+  one-not w = rw w
 
-    pub ready-not : (is-known (p .end) && whole (p .ranges)) ≡ false → refused not-complete ≡ ready p room
-    unfolding ready refuse_when_else_
-    ready-not w = rw (m, sym complete-whole ∙ w)
+  module _ (w : one-whole end count first ≡ true) where
+    pub one-short : room < 16 + first .end → refused (buffer-too-short (16 + first .end)) ≡ one-ready end count first room
+    unfolding one-ready refuse_when_else_
+    one-short h = rw (w, lt-ltb room (16 + first .end) h)
 
-    module _ (w : (is-known (p .end) && whole (p .ranges)) ≡ true) (e : ℕ) (q : e ≡ end-held (p .ranges)) where
-      pub ready-short : (n : ℕ) → n ≡ 16 + e → room < n → refused (buffer-too-short n) ≡ ready p room
-      unfolding ready refuse_when_else_
-      ready-short n k h = rw (m, sym complete-whole ∙ w, ← q, ← k, lt-ltb room n h)
+    pub one-end : 16 + first .end ≤ room → accepted (first .end) ≡ one-ready end count first room
+    unfolding one-ready refuse_when_else_
+    one-end h = rw (w, le-ltb room (16 + first .end) h)
 
-      pub ready-end : 16 + e ≤ room → accepted e ≡ ready p room
-      unfolding ready refuse_when_else_
-      ready-end h = rw (m, sym complete-whole ∙ w, ← q, le-ltb room (16 + e) h)
+-- ---- a state whose ranges are the first n of an array
+module _
+    (p : State) (n : ℕ) (array : List TpRange) (m : bad-state p ≡ false)
+    (ranges : p .ranges ≡ take n array) (few : n ≤ length array) (some : 1 ≤ length array) where
+  pub complete-one : complete p ≡ one-whole (p .end) n (getD array 0 none)
+  unfolding complete
+  complete-one = rw (m, ranges, whole-taken n array few some)
 
-pub not-complete-bad : (p : State) → bad-state p ≡ true → false ≡ complete p
-unfolding complete
-not-complete-bad p m = rw m
+  -- where the one range ends
+  end-one : one-whole (p .end) n (getD array 0 none) ≡ true → end-held (p .ranges) ≡ getD array 0 none .end
+  end-one w =
+      let one : n ≡ 1 = eqb-true n 1 (and-inv (eqb n 1) _ (and-inv (is-known (p .end)) _ w .1) .0) in
+      rw (ranges, one, front array some)
 
--- where the one range ends
-pub first-end : (s : TpStream) → 0 < length (s .ranges) → (is-known (s .end) && whole (held (s .count) (s .ranges))) ≡ true → getD (s .ranges) 0 none .end ≡ end-held (held (s .count) (s .ranges))
-first-end s l w =
-    let one = whole-means (held (s .count) (s .ranges)) (and-inv (is-known (s .end)) _ w .1) in
-    let n : s .count ≡ 1 = sym (held-length (s .count) (s .ranges)) ∙ ap length (one .2) in
-    rw (n, held-take 1 (s .ranges) l, front (s .ranges) l)
+  pub ready-one : (room : ℕ) → ready p room ≡ one-ready (p .end) n (getD array 0 none) room
+  unfolding ready one-ready refuse_when_else_
+  ready-one room = when-pass malformed-state (bad-state p) _ m ∙ go (one-whole (p .end) n (getD array 0 none)) refl
+    where
+      go : (b : Bool) → one-whole (p .end) n (getD array 0 none) ≡ b
+          → (refuse not-complete when not (complete p) else refuse buffer-too-short (16 + end-held (p .ranges)) when ltb room (16 + end-held (p .ranges)) else accepted (end-held (p .ranges)))
+          ≡ one-ready (p .end) n (getD array 0 none) room
+      go true w = rw (complete-one, end-one w)
+      go false w = rw (complete-one, w)
+
+-- ---- 38
+module _ (p : State) (m : bad-state p ≡ true) where
+  pub ready-bad : (room : ℕ) → refused malformed-state ≡ ready p room
+  unfolding ready
+  ready-bad room = sym (when-hit malformed-state (bad-state p) _ m)
+
+  pub complete-bad : false ≡ complete p
+  unfolding complete
+  complete-bad = rw m
+
+-- ---- a stream's record that is not malformed: what its array says
+module _ (s : TpStream) (m : bad-state (view s) ≡ false) (long : length (s .ranges) ≡ most) where
+  few-held : s .count ≤ length (s .ranges)
+  few-held = omega (arith, few s m)
+
+  pub complete-held : complete (view s) ≡ one-whole (s .end) (s .count) (getD (s .ranges) 0 none)
+  complete-held = complete-one (view s) (s .count) (s .ranges) m (held-take (s .count) (s .ranges) few-held) few-held (omega arith)
+
+  pub ready-held : (room : ℕ) → ready (view s) room ≡ one-ready (s .end) (s .count) (getD (s .ranges) 0 none) room
+  ready-held = ready-one (view s) (s .count) (s .ranges) m (held-take (s .count) (s .ranges) few-held) few-held (omega arith)
 
 -- ---- what taking leaves
 module _ (s : TpStream) (buf : List ℕ) where

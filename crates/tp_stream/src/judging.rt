@@ -9,6 +9,7 @@ ghost use Rattle.tp_machine.specs.Ranges.{greatest-end};
 ghost use Rattle.tp_machine.specs.Machine.{begun as begun-of, conflicts, previous};
 ghost use Rattle.refusal.specs.Said.{verdict-said};
 ghost use Rattle.tp_stream.specs.Stream.{view};
+ghost use Rattle.tp_stream.specs.Judging.{header-judged};
 ghost use Rattle.tp_stream.specs.Promises.{Judges};
 use crate::TpStream;
 use refusal::Refusal;
@@ -95,6 +96,40 @@ pub(crate) fn needed(x: u32) -> usize
     HEADER_LEN + x as usize
 }
 
+// 31 to 34 of a segment with that header, for a stream of that limit and end: `least` is how far it has to reach, `room` how long the buffer is.
+pub fn judge_header(limit: u32, end: TpEnd, least: u32, header: TpHeader, room: usize) -> Verdict
+    ensures { λ r. ⌜ verdict-said r ≡ header-judged limit end least header room ⌝ }
+{
+    let offset = header.offset;
+    let length = header.size;
+    if too_big(limit, header) {
+        return Verdict::Refused(Refusal::SegmentTooBig {
+            offset,
+            length,
+            max: limit,
+        });
+    }
+    if not_aligned(header) {
+        return Verdict::Refused(Refusal::UnalignedTpPayloadLen { offset, length });
+    }
+    let new = offset + length as u32;
+    if conflicting(end, header.more, new) {
+        let previous = previous_end(end);
+        return Verdict::Refused(Refusal::ConflictingEnd { previous, new });
+    }
+    if new < least {
+        return Verdict::Refused(Refusal::ConflictingEnd {
+            previous: least,
+            new,
+        });
+    }
+    let needed = needed(new);
+    if room < needed {
+        return Verdict::Refused(Refusal::BufferTooShort(needed));
+    }
+    Verdict::Passed
+}
+
 // The first refusal of a segment for a buffer of `room` bytes, the one after joining aside; or its header.
 pub(crate) fn judge(s: TpStream, seg: &[u8], room: usize) -> SegmentAnswer
     ensures { λ r. ⌜ Judges (view s) (now (seg .entry)) room r ⌝ }
@@ -106,35 +141,12 @@ pub(crate) fn judge(s: TpStream, seg: &[u8], room: usize) -> SegmentAnswer
     let SegmentAnswer::Good(header) = answer else {
         return answer;
     };
-    let offset = header.offset;
-    let length = header.size;
-    if too_big(s.limit, header) {
-        return SegmentAnswer::Refused(Refusal::SegmentTooBig {
-            offset,
-            length,
-            max: s.limit,
-        });
-    }
-    if not_aligned(header) {
-        return SegmentAnswer::Refused(Refusal::UnalignedTpPayloadLen { offset, length });
-    }
-    let new = offset + length as u32;
     let end = s.end;
-    if conflicting(end, header.more, new) {
-        let previous = previous_end(end);
-        return SegmentAnswer::Refused(Refusal::ConflictingEnd { previous, new });
-    }
     let ranges = s.ranges;
     let least = least_end(ranges, s.count, header.more);
-    if new < least {
-        return SegmentAnswer::Refused(Refusal::ConflictingEnd {
-            previous: least,
-            new,
-        });
-    }
-    let needed = needed(new);
-    if room < needed {
-        return SegmentAnswer::Refused(Refusal::BufferTooShort(needed));
-    }
+    let judged = judge_header(s.limit, end, least, header, room);
+    let Verdict::Passed = judged else {
+        return SegmentAnswer::Refused(judged.refusal());
+    };
     answer
 }

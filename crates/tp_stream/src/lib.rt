@@ -25,10 +25,16 @@ mod writing; // writing.rt: what is written into the buffer
 mod taking; // taking.rt: answers 38, 37 and 34 of taking
 mod telling; // telling.rt: the count and the ranges with their numbers, answers 38 and 20
 
+pub use judging::judge_header;
 pub use judging::previous_end;
+pub use malformed::bad_range;
+pub use taking::ready_of;
+pub use taking::whole;
 pub use telling::RangeAnswer;
 pub use telling::accepted;
 pub use telling::range_from;
+pub use writing::put_length;
+pub use writing::write;
 
 // The highest payload limit.
 pub const MAX_LIMIT: u32 = 65520;
@@ -131,7 +137,7 @@ fn accept(s: TpStream, seg: &[u8], buf: &mut [u8], header: TpHeader) -> TpStep
             stream: s,
         };
     }
-    writing::write(buf, seg, header.offset as usize);
+    writing::write(buf, seg, header.offset);
     let ranges = joined.ranges;
     let before = s.end;
     let end = end_after(before, header.more, new.end);
@@ -148,7 +154,7 @@ fn accept(s: TpStream, seg: &[u8], buf: &mut [u8], header: TpHeader) -> TpStep
 }
 
 // The end that is known after a segment that ends at x: a final one sets it.
-fn end_after(end: TpEnd, more: bool, x: u32) -> TpEnd
+pub fn end_after(end: TpEnd, more: bool, x: u32) -> TpEnd
     ensures { λ r. ⌜ r ≡ cond more end (Known x) ⌝ }
 {
     if more {
@@ -164,7 +170,10 @@ pub fn complete(s: TpStream) -> bool
     if malformed::malformed(s) {
         return false;
     }
-    taking::whole(s)
+    let end = s.end;
+    let ranges = s.ranges;
+    let first = ranges[0];
+    taking::whole(end, s.count, first)
 }
 
 // Taking the report: answers 38, 37 and 34, or the length field is written and where the payload ends is told.

@@ -41,7 +41,7 @@ fn never_given(accepted: u32, number: u32) -> bool
 }
 
 // Whether a range is bad in a state whose ranges may reach to `top`, after so many accepted segments.
-fn bad_range(top: u32, accepted: u32, r: TpRange) -> bool
+pub fn bad_range(top: u32, accepted: u32, r: TpRange) -> bool
     ensures { λ b. ⌜ ((p : State) → Reach p top → p .count ≡ accepted → b ≡ bad-range p r) ⌝ }
 {
     if r.end < r.start {

@@ -2,14 +2,35 @@
 ghost use mathlib.Core.Path.{_≡_};
 ghost use Prim.Native.Nat.{_+_, _≤_};
 ghost use lib.ListN.{length};
-ghost use Rattle.numbers.specs.Bytes.{be32};
-ghost use Rattle.tp_machine.specs.Machine.{highest};
-ghost use Rattle.tp_machine.specs.Segments.{offset as offset-of, end-of, without-tp, header, pasted, written};
+ghost use Rattle.tp_machine.specs.Segments.{without-tp, header, pasted};
+ghost use Rattle.tp_stream.specs.Writing.{written-at, length-put};
 use tp_segment::HEADER_LEN;
 use tp_segment::SEGMENT_HEADER_LEN;
 
-// Copies src into buf from index `at`.
-fn put(buf: &mut [u8], at: usize, src: &[u8])
+// How many bytes are copied at once.
+const MOST: usize = 2048;
+
+// Copies a few bytes into buf from index `at`. They go by way of an array of its own, which shares no byte with either slice: so the compiler sees
+// that all are read before any is written, leaves the array out, and makes one `memmove` of both loops.
+fn put_few(buf: &mut [u8], at: usize, src: &[u8])
+    requires { ⌜ (length (now src) ≤ 2048) × (at + length (now src) ≤ length (now buf)) ⌝ }
+    ensures { λ _. ⌜ now (buf .exit) ≡ pasted (now (buf .entry)) at (now (src .entry)) ⌝ }
+{
+    let mut few = [0; MOST];
+    let mut i: usize = 0;
+    while i < src.len() {
+        few[i] = src[i];
+        i += 1;
+    }
+    let mut j: usize = 0;
+    while j < src.len() {
+        buf[at + j] = few[j];
+        j += 1;
+    }
+}
+
+// Copies any number of bytes into buf from index `at`, one after the other.
+fn put_each(buf: &mut [u8], at: usize, src: &[u8])
     requires { ⌜ at + length (now src) ≤ length (now buf) ⌝ }
     ensures { λ _. ⌜ now (buf .exit) ≡ pasted (now (buf .entry)) at (now (src .entry)) ⌝ }
 {
@@ -18,6 +39,18 @@ fn put(buf: &mut [u8], at: usize, src: &[u8])
         buf[at + i] = src[i];
         i += 1;
     }
+}
+
+// Copies src into buf from index `at`.
+fn put(buf: &mut [u8], at: usize, src: &[u8])
+    requires { ⌜ at + length (now src) ≤ length (now buf) ⌝ }
+    ensures { λ _. ⌜ now (buf .exit) ≡ pasted (now (buf .entry)) at (now (src .entry)) ⌝ }
+{
+    if MOST < src.len() {
+        put_each(buf, at, src);
+        return;
+    }
+    put_few(buf, at, src);
 }
 
 // A message type with 0x20 cleared.
@@ -36,22 +69,36 @@ fn put_header(buf: &mut [u8], seg: &[u8])
     buf[14] = without_tp(seg[14]);
 }
 
-// The payload of a segment at `offset`, and for an offset of 0 its header too.
-pub(crate) fn write(buf: &mut [u8], seg: &[u8], offset: usize)
-    requires { ⌜ (20 ≤ length (now seg)) × (offset ≡ offset-of (now seg)) × (16 + end-of (now seg) ≤ length (now buf)) ⌝ }
-    ensures { λ _. ⌜ now (buf .exit) ≡ written (now (buf .entry)) (now (seg .entry)) ⌝ }
+// The payload of a segment at `offset`, and for an offset of 0 its header too; nothing where that does not fit.
+pub fn write(buf: &mut [u8], seg: &[u8], offset: u32)
+    ensures { λ _. ⌜ now (buf .exit) ≡ written-at (now (buf .entry)) offset (now (seg .entry)) ⌝ }
 {
+    let at = HEADER_LEN + offset as usize;
+    if seg.len() < SEGMENT_HEADER_LEN {
+        return;
+    }
+    if buf.len() < at {
+        return;
+    }
+    if buf.len() - at < seg.len() - SEGMENT_HEADER_LEN {
+        return;
+    }
     if offset == 0 {
         put_header(buf, seg);
     }
-    put(buf, HEADER_LEN + offset, &seg[SEGMENT_HEADER_LEN..]);
+    put(buf, at, &seg[SEGMENT_HEADER_LEN..]);
 }
 
-// The length field, bytes 4 to 7, of a report whose payload ends at `end`.
-pub(crate) fn put_length(buf: &mut [u8], end: usize)
-    requires { ⌜ (8 ≤ length (now buf)) × (end ≤ highest) ⌝ }
-    ensures { λ _. ⌜ now (buf .exit) ≡ pasted (now (buf .entry)) 4 (be32 (end + 8)) ⌝ }
+// The length field, bytes 4 to 7, of a report whose payload ends at `end`; nothing where the buffer has none, or past the highest limit.
+pub fn put_length(buf: &mut [u8], end: usize)
+    ensures { λ _. ⌜ now (buf .exit) ≡ length-put (now (buf .entry)) end ⌝ }
 {
+    if buf.len() < 8 {
+        return;
+    }
+    if (crate::MAX_LIMIT as usize) < end {
+        return;
+    }
     let n = end + 8;
     let high = n / 65536;
     let low = n % 65536;

@@ -1,10 +1,12 @@
 -- `tp_stream::accept` meets its contract. Assumes nothing.
 use Prim.Native.Nat.{_+_, _≤_, _<_}
-use mathlib.Core.Path.{_≡_, ap}
+use mathlib.Core.Path.{_≡_, ap, _∙_}
 use native.Mathlib.Omega.{arith}
 use lib.ListN.{length}
 use Rattle.tp_machine.specs.Machine.{most, highest, last-number}
 use Rattle.tp_segment.specs.declared.TpHeader.{TpHeader}
+use Rattle.tp_stream.specs.Writing.{written-at}
+use Rattle.tp_stream.proofs.WritingLaws.{written-fits}
 use Rattle.tp_stream.proofs.StreamLaws.{length-of-map}
 use Rattle.tp_stream.proofs.StepLaws.{ran-full, ran-counted-out, ran-taken}
 use borrow.Author.Needs.{needs}
@@ -49,21 +51,17 @@ returns-2 c =
     ran-counted-out (s .args .s) (s .args .seg .now) (s .args .buf .now) (s .args .header) (s .pre) (long s) _ (at-number at-join .next-number .ensures) _ (at-join .join .ensures) (at-else .if1 .left)
     (c .if2 .taken)
 
-write-requires : tie.Need-write-requires
-write-requires c κs =
-    let s = start (c .before .before .before .before .before) in
-    (s .pre .long, ap (λ (h : TpHeader). h .offset) (s .pre .header), s .pre .fits)
-
 returns-3 : tie.Need-returns-3
 returns-3 c =
     let at-write = c .before .before .before .before in
-    let at-second = at-write .before .before .before in
+    let at-second = at-write .before .before in
     let at-first = at-second .before .before in
     let at-join = at-first .before in
     let s = start at-join in
+    let where-said = ap (λ (h : TpHeader). written-at (s .args .buf .now) (h .offset) (s .args .seg .now)) (s .pre .header) in
     let left : s .args .s .accepted < last-number = omega (arith, low s, at-second .if2 .left) in
     ran-taken (s .args .s) (s .args .seg .now) (s .args .buf .now) (s .args .header) (s .pre) (long s) _ (at-number at-join .next-number .ensures) _ (at-join .join .ensures) (at-first .if1 .left) left
-    _ (c .end-after .ensures) _ (at-write .write .ensures)
+    _ (c .end-after .ensures) _ (at-write .write .ensures ∙ where-said ∙ written-fits (s .args .buf .now) (s .args .seg .now) (s .pre .long) (s .pre .fits))
 
 pub accept-spec : {M : Type 1} → statement M
 accept-spec =
@@ -75,8 +73,7 @@ accept-spec =
     (λ c κs. search needs)
     returns
     returns-2
-    (λ c. search needs)
-    write-requires
+    (λ c κs. search needs)
     (λ c κs. search needs)
     (λ c. search needs)
     returns-3)

@@ -7,6 +7,7 @@ use Rattle.tp_machine.specs.Taking.{ready}
 use Rattle.refusal.specs.Said.{count-said}
 use Rattle.tp_stream.specs.Stream.{view}
 use Rattle.tp_machine.proofs.Steps.{ready-tells}
+use Rattle.tp_stream.proofs.WritingLaws.{length-fits}
 use Rattle.tp_stream.proofs.TakingLaws.{took-end, took-nothing}
 use borrow.Author.Needs.{needs}
 use Rattle.tp_stream.proofs.take.Statement.{statement}
@@ -21,14 +22,13 @@ returns c =
     let at-ready = c .before .before in
     took-nothing (at-ready .before .before .args .s) (at-ready .before .before .args .buf .now) _ _ (c .enum-told .given .1) (at-ready .ready .ensures)
 
-put-length-requires : tie.Need-put-length-requires
-put-length-requires c κs = omega (arith, ready-tells _ _ _ (given-end (c .before .before)))
-
 returns-2 : tie.Need-returns-2
 returns-2 c =
     let at-put = c .before .before in
     let at-answer = at-put .before .before .before in
-    took-end (at-answer .before .before .before .before .args .s) (at-answer .before .before .before .before .args .buf .now) _ _ (given-end at-answer) (at-put .put-length .ensures)
+    let a = at-answer .before .before .before .before .args in
+    let tells = ready-tells _ _ _ (given-end at-answer) in
+    took-end (a .s) (a .buf .now) _ _ (given-end at-answer) (at-put .put-length .ensures ∙ length-fits (a .buf .now) _ (omega (arith, tells)) (omega (arith, tells)))
 
 pub take-spec : {M : Type 1} → statement M
 take-spec =
@@ -38,6 +38,6 @@ take-spec =
     (λ c. search needs)
     (λ c. search needs)
     returns
-    put-length-requires
+    (λ c κs. search needs)
     (λ c. search needs)
     returns-2)

@@ -1,5 +1,5 @@
 -- `tp_stream::writing::write` meets its contract: where the arms meet the header is there if the offset is 0. Assumes nothing.
-use Prim.Native.Nat.{ℕ, _+_}
+use Prim.Native.Nat.{ℕ, _+_, _≤_}
 use mathlib.Core.Path.{_≡_, sym, ap, _∙_}
 use mathlib.Core.Bool.{Bool, cond}
 use mathlib.Core.Logic.{⊎-elim}
@@ -7,62 +7,89 @@ use mathlib.Core.List.{List}
 use native.Mathlib.Omega.{arith}
 use borrow.Author.Tests.{eq-eqb, ne-eqb}
 use lib.Dec.{eqb}
-use lib.ListN.{length, drop, length-drop}
-use Rattle.tp_machine.specs.Segments.{offset, payload, header, pasted, written}
+use lib.ListN.{length, length-drop}
+use Rattle.tp_machine.specs.Segments.{payload, size, header, pasted}
 use Rattle.numbers.proofs.ByteLaws.{take-rest}
+use Rattle.tp_stream.proofs.WritingLaws.{no-segment, no-room, written-there}
 use borrow.Author.Needs.{needs}
 use Rattle.tp_stream.proofs.writing.write.Statement.{statement}
 use Rattle.tp_stream.proofs.writing.write.Tie as tie
 
-module _ (c : tie.Joined1) where
+returns : tie.Need-returns
+returns c = no-segment _ _ _ (c .if1 .taken)
+
+returns-2 : tie.Need-returns-2
+returns-2 c = no-room _ _ _ (c .before .if1 .left) (omega (arith, c .if2 .taken))
+
+returns-3 : tie.Need-returns-3
+unfolding payload
+returns-3 c =
+    let start = c .before .before .before .before .before in
+    no-room (start .args .buf .now) (start .args .offset) (start .args .seg .now) (c .before .before .if1 .left) (rw length-drop (omega arith))
+
+-- behind the tests
+module _ (c : tie.Else3) where
+  abbrev start : tie.Start
+  start = c .before .before .before .before .before
+
   abbrev buf : List ℕ
-  buf = c .before .before .before .args .buf .now
+  buf = start .args .buf .now
 
   abbrev seg : List ℕ
-  seg = c .before .before .before .args .seg .now
+  seg = start .args .seg .now
 
   abbrev off : ℕ
-  off = c .before .before .before .args .offset
+  off = start .args .offset
 
-  first : c .if1 .buf ≡ cond (eqb off 0) (pasted buf 0 (header seg)) buf
+  fits : 16 + (off + size seg) ≤ length buf
+  unfolding payload
+  fits = rw length-drop (omega arith)
+
+module _ (c : tie.Joined4) where
+  first : c .if4 .buf ≡ cond (eqb (off (c .before)) 0) (pasted (buf (c .before)) 0 (header (seg (c .before)))) (buf (c .before))
   first = ⊎-elim
-      (λ w. w .5 ∙ w .2 .ensures ∙ ap (λ (b : Bool). cond b (pasted buf 0 (header seg)) buf) (sym (eq-eqb _ _ (w .0 .taken))))
-      (λ w. w .1 ∙ ap (λ (b : Bool). cond b (pasted buf 0 (header seg)) buf) (sym (ne-eqb _ _ (w .0 .left))))
-      (c .if1 .came)
+      (λ w. w .5 ∙ w .2 .ensures ∙ ap (λ (b : Bool). cond b (pasted (buf (c .before)) 0 (header (seg (c .before)))) (buf (c .before))) (sym (eq-eqb _ _ (w .0 .taken))))
+      (λ w. w .1 ∙ ap (λ (b : Bool). cond b (pasted (buf (c .before)) 0 (header (seg (c .before)))) (buf (c .before))) (sym (ne-eqb _ _ (w .0 .left))))
+      (c .if4 .came)
 
-  same : length (c .if1 .buf) ≡ length buf
-  same = ⊎-elim (λ w. ap length (w .5) ∙ w .2 .kept .0) (λ w. ap length (w .1)) (c .if1 .came)
+  same : length (c .if4 .buf) ≡ length (buf (c .before))
+  same = ⊎-elim (λ w. ap length (w .5) ∙ w .2 .kept .0) (λ w. ap length (w .1)) (c .if4 .came)
 
 put-requires : tie.Need-put-requires
 unfolding payload
 put-requires c κs =
     let at-join = c .before .before in
-    omega (arith, same at-join, ap length (take-rest (seg at-join) 20), length-drop 20 (seg at-join))
+    omega (arith, same at-join, fits (at-join .before), ap length (take-rest (seg (at-join .before)) 20))
 
 same-length : tie.Need-same-length
 same-length c =
     let at-put = c .before .before in
     at-put .put .kept .0 ∙ same (at-put .before .before .before)
 
-returns : tie.Need-returns
-unfolding written payload
-returns c =
+returns-4 : tie.Need-returns-4
+unfolding payload
+returns-4 c =
     let at-put = c .before .before in
     let at-join = at-put .before .before .before in
-    let is : off at-join ≡ offset (seg at-join) = at-join .before .before .before .pre .1 in
+    let at-last = at-join .before in
     at-put .put .ensures
-    ∙ (λ i. pasted (first at-join i) (16 + off at-join) (take-rest (seg at-join) 20 i))
-    ∙ (λ i. pasted (cond (eqb (is i) 0) (pasted (buf at-join) 0 (header (seg at-join))) (buf at-join)) (16 + is i) (drop 20 (seg at-join)))
+    ∙ (λ i. pasted (first at-join i) (16 + off at-last) (take-rest (seg at-last) 20 i))
+    ∙ written-there (buf at-last) (off at-last) (seg at-last) (at-last .before .before .if1 .left) (fits at-last)
 
 pub write-spec : {M : Type 1} → statement M
 write-spec =
     tie.close
     (tie.spec
-    (λ c κs. search needs)
     (λ c. search needs)
+    returns
+    returns-2
+    (λ c. search needs)
+    (λ c. search needs)
+    returns-3
+    (λ c κs. search needs)
     (λ c. search needs)
     (λ c. search needs)
     (λ c. search needs)
     put-requires
     same-length
-    returns)
+    returns-4)

@@ -1,15 +1,13 @@
--- `tp_stream::writing::put` meets its contract: after i turns the first i bytes are in their places. Assumes nothing.
-use Prim.Native.Nat.{ℕ, _+_, _-_, _≤_}
-use mathlib.Core.Path.{_≡_, refl, sym, ap, _∙_}
-use mathlib.Core.List.{List}
+-- `tp_stream::writing::put_each` meets its contract: after i turns the first i bytes are in their places. Assumes nothing.
+use Prim.Native.Nat.{_-_, _≤_}
+use mathlib.Core.Path.{_≡_, refl, ap, _∙_}
 use native.Mathlib.Nat.{le-antisymm}
-use native.Mathlib.Numerals.{add-one}
 use native.Mathlib.Omega.{arith}
-use lib.ListN.{length, set, getD, length-set}
-use lib.Seq.{paste, paste-zero, paste-suc}
-use Rattle.tp_stream.proofs.WritingLaws.{paste-all}
-use Rattle.tp_stream.proofs.writing.put.Statement.{statement}
-use Rattle.tp_stream.proofs.writing.put.Tie as tie
+use lib.ListN.{length, length-set}
+use lib.Seq.{paste, paste-zero}
+use Rattle.tp_stream.proofs.WritingLaws.{paste-all, paste-more}
+use Rattle.tp_stream.proofs.writing.put_each.Statement.{statement}
+use Rattle.tp_stream.proofs.writing.put_each.Tie as tie
 
 abbrev Inv-loop : tie.InvT-loop
 Inv-loop buf₀ at src i₀ buf i = (i ≤ length src) × (buf ≡ paste buf₀ at src i) × (length buf ≡ length buf₀)
@@ -25,9 +23,7 @@ loop-again c =
     let at-loop = c .before .before in
     let a = at-loop .before .args in (
       omega arith,
-      ap (λ (l : List ℕ). set l (a .at + at-loop .loop .i) (getD (a .src .now) (at-loop .loop .i) 0)) (at-loop .loop .inv .1)
-          ∙ paste-suc (a .buf .now) (a .at) (a .src .now) (at-loop .loop .i) 0 (omega arith) (omega arith)
-          ∙ ap (paste (a .buf .now) (a .at) (a .src .now)) (sym (add-one (at-loop .loop .i))),
+      paste-more (a .buf .now) _ (a .at) (a .src .now) (at-loop .loop .i) (omega arith) (omega arith) (at-loop .loop .inv .1),
       simp length-set (at-loop .loop .inv .2),
     )
 
@@ -42,8 +38,8 @@ returns c =
     ∙ ap (paste (a .buf .now) (a .at) (a .src .now)) (le-antisymm (at-loop .loop .inv .0) (c .loop-test .left))
     ∙ paste-all (a .buf .now) (a .at) (a .src .now)
 
-pub put-spec : {M : Type 1} → statement M
-put-spec =
+pub put-each-spec : {M : Type 1} → statement M
+put-each-spec =
     tie.close
     (tie.spec
     Inv-loop
