@@ -45,7 +45,7 @@ unfolding flat
 flat-length [] = refl
 flat-length (r ∷ rs) = omega (arith, flat-length rs)
 
-flat-append : (rs qs : List TpRange) → flat (rs ++ qs) ≡ flat rs ++ flat qs
+pub flat-append : (rs qs : List TpRange) → flat (rs ++ qs) ≡ flat rs ++ flat qs
 unfolding flat
 flat-append [] qs = refl
 flat-append (r ∷ rs) qs = ap (λ (l : List ℕ). flat (r ∷ []) ++ l) (flat-append rs qs)

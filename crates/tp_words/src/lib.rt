@@ -19,7 +19,7 @@ pub const RANGE_WORDS: usize = 3;
 pub const WORDS: usize = FRONT_WORDS + RANGE_WORDS * MAX_RANGES;
 
 // The end that two words tell.
-fn end_of(known: u32, end: u32) -> TpEnd
+pub fn end_of(known: u32, end: u32) -> TpEnd
     ensures { λ r. ⌜ r ≡ end-of known end ⌝ }
 {
     if known == 0 {
@@ -29,7 +29,7 @@ fn end_of(known: u32, end: u32) -> TpEnd
 }
 
 // Whether an end is known, as a word.
-fn known_of(end: TpEnd) -> u32
+pub fn known_of(end: TpEnd) -> u32
     ensures { λ r. ⌜ r ≡ known end ⌝ }
 {
     match end {

@@ -1,0 +1,5 @@
+pub mod PlaceLaws
+pub mod RisingLaws
+pub mod ReadyLaws
+pub mod PlanLaws
+pub mod CallLaws

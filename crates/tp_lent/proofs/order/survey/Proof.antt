@@ -1,0 +1,197 @@
+-- `tp_lent::order::survey` meets its contract: what is told of all ranges is told of those that are left. Assumes nothing.
+use Prim.Native.Nat.{ℕ, _+_, _-_, _≤_, _<_}
+use mathlib.Core.Path.{_≡_, refl, sym, ap, _∙_}
+use mathlib.Core.Bool.{Bool, true, false, cond, false≢true}
+use lib.Dec.{ltb, leb}
+use mathlib.Core.List.{List, []}
+use native.Mathlib.Omega.{arith}
+use lib.ListN.{length, take, drop, getD}
+use Rattle.tp_machine.specs.declared.TpRange.{TpRange}
+use Rattle.tp_machine.specs.declared.TpEnd.the-variants.{Unknown}
+use Rattle.tp_machine.specs.Lists.{counted}
+use Rattle.tp_machine.specs.Ranges.{ends-before, begins-by}
+use Rattle.tp_machine.specs.Machine.{most, State, bad-range}
+use Rattle.tp_stream.specs.Promises.{Reach}
+use Rattle.tp_stream.proofs.MalformedLaws.{reach-limit}
+use Rattle.tp_range.specs.Joining.{none}
+use Rattle.tp_words.specs.Words.{ranges-in}
+use Rattle.tp_words.proofs.WordLaws.{in-length}
+use Rattle.tp_lent.specs.Lent.{rising}
+use Rattle.tp_lent.proofs.PlaceLaws.{ranges-at}
+use Rattle.tp_lent.proofs.RisingLaws.{not-bad, rising-low, rising-bad, rising-next, rising-done, counted-next, counted-done}
+use borrow.Author.Needs.{needs}
+use Rattle.tp_lent.proofs.order.survey.Statement.{statement}
+use Rattle.tp_lent.proofs.order.survey.Tie as tie
+
+record Held (ws : List ℕ) (count top start end low before behind i : ℕ) : Type 0 where
+  upto : i ≤ count
+  few : before ≤ i
+  fewer : behind ≤ i
+  rises : (p : State) → Reach p top → p .count ≡ getD ws 4 0 → rising p 0 (take count (ranges-in ws most)) ≡ rising p low (drop i (take count (ranges-in ws most)))
+  befores : before + counted (ends-before start) (drop i (take count (ranges-in ws most))) ≡ counted (ends-before start) (take count (ranges-in ws most))
+  behinds : behind + counted (begins-by end) (drop i (take count (ranges-in ws most))) ≡ counted (begins-by end) (take count (ranges-in ws most))
+
+abbrev Inv-loop : tie.InvT-loop
+Inv-loop words count top start end accepted low₀ before₀ behind₀ i₀ low before behind i = Held words count top start end low before behind i
+
+abbrev μ-loop : tie.MeasureT-loop
+μ-loop words count top start end accepted low₀ before₀ behind₀ i₀ low before behind i = count - i
+
+-- the range that was read
+module _ (c : tie.After-range-at Inv-loop μ-loop) where
+  abbrev at-loop : tie.At-loop Inv-loop μ-loop
+  at-loop = c .before .before
+
+  abbrev start : tie.Start Inv-loop μ-loop
+  start = at-loop .before .before .before
+
+  abbrev array : List TpRange
+  array = ranges-in (start .args .words .now) most
+
+  abbrev count : ℕ
+  count = start .args .count
+
+  abbrev i : ℕ
+  i = at-loop .loop .i
+
+  abbrev here : TpRange
+  here = c .range-at .result
+
+  less : i < count
+  less = c .before .loop-test .taken
+
+  long : count ≤ length array
+  long = omega (arith, in-length (start .args .words .now) most, start .pre .0)
+
+  is : here ≡ getD array i none
+  is = c .range-at .ensures ∙ sym (ranges-at (start .args .words .now) most i (omega (arith, less, start .pre .0)))
+
+  -- what is known of all of them where the next begins at or behind `low`
+  rises : (p : State) → Reach p (start .args .top) → p .count ≡ getD (start .args .words .now) 4 0 → (b : Bool) → rising p (at-loop .loop .low) (drop i (take count array)) ≡ b → rising p 0 (take count array) ≡ b
+  rises p reach counts b e = at-loop .loop .inv .rises p reach counts ∙ e
+
+-- a range that is not bad ends within `top`
+module _ (c : tie.Else2 Inv-loop μ-loop) where
+  abbrev at-range : tie.After-range-at Inv-loop μ-loop
+  at-range = c .before .before .before .before
+
+  fine : (p : State) → Reach p (start at-range .args .top) → p .count ≡ getD (start at-range .args .words .now) 4 0 → bad-range p (here at-range) ≡ false
+  fine p reach counts = sym (c .before .bad-range .ensures p reach counts) ∙ c .if2 .left
+
+  within : here at-range .end ≤ start at-range .args .top
+  within =
+      let p : State = record { limit = start at-range .args .top; ranges = []; end = Unknown; count = getD (start at-range .args .words .now) 4 0 } in
+      not-bad p (here at-range) (fine p (reach-limit p (start at-range .args .top) refl refl) refl) .1
+
+shared-slice-read-accepted : tie.Need-shared-slice-read-accepted Inv-loop μ-loop
+shared-slice-read-accepted c = omega (arith, c .before .before .pre .2)
+
+loop-holds : tie.Need-loop-holds Inv-loop μ-loop
+loop-holds c = record { upto = omega arith; few = omega arith; fewer = omega arith; rises = λ p r e. refl; befores = omega arith; behinds = omega arith }
+
+range-at-requires : tie.Need-range-at-requires Inv-loop μ-loop
+range-at-requires c κs = let s = c .before .before .before .before in (omega (arith, c .loop-test .taken, s .pre .0), s .pre .2)
+
+add-i : tie.Need-add-i Inv-loop μ-loop
+add-i c = omega arith
+
+returns : tie.Need-returns Inv-loop μ-loop
+returns c p reach counts =
+    let at = c .before .before in
+    record {
+      fine = sym (rises at p reach counts false (rising-low (array at) (i at) (count at) (less at) (long at) (here at) (is at) p (at-loop at .loop .low) (c .if1 .taken)));
+      before = λ e. absurd (false≢true e);
+      behind = λ e. absurd (false≢true e);
+    }
+
+bad-range-requires : tie.Need-bad-range-requires Inv-loop μ-loop
+bad-range-requires c κs = tt
+
+returns-2 : tie.Need-returns-2 Inv-loop μ-loop
+returns-2 c p reach counts =
+    let at = c .before .before .before .before in
+    record {
+      fine = sym (rises at p reach counts false (rising-bad (array at) (i at) (count at) (less at) (long at) (here at) (is at) p (at-loop at .loop .low) (c .before .before .if1 .left) (sym (c .before .bad-range .ensures p reach counts) ∙ c .if2 .taken)));
+      before = λ e. absurd (false≢true e);
+      behind = λ e. absurd (false≢true e);
+    }
+
+add-low : tie.Need-add-low Inv-loop μ-loop
+add-low c = omega (arith, within (c .before), start (at-range (c .before)) .pre .1)
+
+one-if-requires : tie.Need-one-if-requires Inv-loop μ-loop
+one-if-requires c κs = tt
+
+-- a count grows by at most one
+at-most : (b : Bool) → cond b 1 0 ≤ 1
+at-most true = omega arith
+at-most false = omega arith
+
+add-before : tie.Need-add-before Inv-loop μ-loop
+add-before c =
+    let at = at-range (c .before .before .before) in
+    omega (arith, c .one-if .ensures, at-most (ltb (here at .end) (start at .args .start)), at-loop at .loop .inv .few, less at, start at .pre .0)
+
+one-if-requires-2 : tie.Need-one-if-requires-2 Inv-loop μ-loop
+one-if-requires-2 c κs = tt
+
+add-behind : tie.Need-add-behind Inv-loop μ-loop
+add-behind c =
+    let at = at-range (c .before .before .before .before .before) in
+    omega (arith, c .one-if2 .ensures, at-most (leb (here at .start) (start at .args .end)), at-loop at .loop .inv .fewer, less at, start at .pre .0)
+
+loop-less : tie.Need-loop-less Inv-loop μ-loop
+loop-less c = omega arith
+
+loop-again : tie.Need-loop-again Inv-loop μ-loop
+loop-again c =
+    let test = c .before .before .before .before .before in
+    let at = at-range test in
+    let inv = at-loop at .loop .inv in
+    record {
+      upto = omega (arith, less at);
+      few = omega (arith, c .before .before .one-if .ensures, at-most (ltb (here at .end) (start at .args .start)), inv .few);
+      fewer = omega (arith, c .one-if2 .ensures, at-most (leb (here at .start) (start at .args .end)), inv .fewer);
+      rises = λ p reach counts. rises at p reach counts _ (rising-next (array at) (i at) (count at) (less at) (long at) (here at) (is at) p (at-loop at .loop .low) (test .before .before .if1 .left) (fine test p reach counts));
+      befores =
+          counted-next (array at) (i at) (count at) (less at) (long at) (here at) (is at) (ends-before (start at .args .start)) (at-loop at .loop .before) _
+          (ap (_+_ (at-loop at .loop .before)) (c .before .before .one-if .ensures))
+          ∙ inv .befores;
+      behinds =
+          counted-next (array at) (i at) (count at) (less at) (long at) (here at) (is at) (begins-by (start at .args .end)) (at-loop at .loop .behind) _
+          (ap (_+_ (at-loop at .loop .behind)) (c .one-if2 .ensures))
+          ∙ inv .behinds;
+    }
+
+returns-3 : tie.Need-returns-3 Inv-loop μ-loop
+returns-3 c p reach counts =
+    let at = c .before in
+    let a = at .before .before .before .args in
+    let all = ranges-in (a .words .now) most in
+    record {
+      fine = sym (at .loop .inv .rises p reach counts ∙ rising-done p (at .loop .low) all (at .loop .i) (a .count) (c .loop-test .left));
+      before = λ _. sym (counted-done (ends-before (a .start)) (at .loop .before) all (at .loop .i) (a .count) (c .loop-test .left)) ∙ at .loop .inv .befores;
+      behind = λ _. sym (counted-done (begins-by (a .end)) (at .loop .behind) all (at .loop .i) (a .count) (c .loop-test .left)) ∙ at .loop .inv .behinds;
+    }
+
+pub survey-spec : {M : Type 1} → statement M
+survey-spec =
+    tie.close
+    (tie.spec
+    Inv-loop
+    μ-loop
+    shared-slice-read-accepted
+    loop-holds
+    range-at-requires
+    add-i
+    returns
+    bad-range-requires
+    returns-2
+    add-low
+    one-if-requires
+    add-before
+    one-if-requires-2
+    add-behind
+    loop-less
+    loop-again
+    returns-3)
