@@ -232,7 +232,7 @@ module _ (array : List TpRange) (count : ℕ) (long : length array ≡ most) whe
     pub joined-room : length keeps < most
         → record { full = false; ranges = placed (over keeps array) (inserted grows (take (length keeps) (over keeps array))); count = length keeps + 1 } ≡ joined-in array count new
     unfolding joined-in
-    joined-room h = (λ i. record { full = false; ranges = put-in h i; count = sym all-count i }) ∙ fitted-in all (omega (arith, all-count)) ∙ ap (fitted array count) all-joined
+    joined-room h = (λ i. record { full = false; ranges = put-in (omega arith) i; count = sym all-count i }) ∙ fitted-in all (omega (arith, all-count)) ∙ ap (fitted array count) all-joined
 
     pub joined-full : most ≤ length keeps → record { full = true; ranges = array; count = count } ≡ joined-in array count new
     unfolding joined-in

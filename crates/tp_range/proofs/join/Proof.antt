@@ -106,7 +106,7 @@ room : (c : tie.Then2 Inv-loop μ-loop) → c .before .before .loop .kept < most
 room c = omega arith
 
 insert-requires : tie.Need-insert-requires Inv-loop μ-loop
-insert-requires c κs = room c
+insert-requires c κs = omega (arith, room c)
 
 returns : tie.Need-returns Inv-loop μ-loop
 returns c =
