@@ -35,14 +35,15 @@ use Rattle.tp_machine.proofs.Report.{every-report}
 use Rattle.tp_machine.proofs.Ends.{every-end}
 use Rattle.tp_stream.specs.declared.TpStream.{TpStream}
 use Rattle.tp_stream.specs.declared.TpStep.{TpStep}
-use Rattle.tp_stream.specs.Stream.{view, stored, blank}
-use Rattle.tp_stream.specs.Promises.{seen, Began, Ran, Took}
+use Rattle.tp_stream.specs.Stream.{stored, blank}
+use Rattle.tp_stream.specs.Promises.{Began, Took}
 use Rattle.tp_words.specs.Words.{size, unfit, stream-of, state-of, put}
 use Rattle.tp_words.proofs.PutLaws.{fit}
 use Rattle.tp_words.proofs.Holding.{words-hold}
+use Rattle.tp_lent.specs.Lent.{kept, Joins, Cleared}
 use Rattle.hub.specs.declared.answers.Answer.{Answer}
 use Rattle.hub.specs.Answers.{row, refusal-row, told, no-values, one-value, report-values, range-values}
-use Rattle.hub.specs.Tp.{in-words, Begins, kept, Consumes, completes, InFront, Takes, Clears, counts, ranges, Comes, none, next, Called, Stands, Reports, Shut, OverWords}
+use Rattle.hub.specs.Tp.{in-words, Begins, Consumes, completes, InFront, Takes, Clears, counts, ranges, Comes, none, next, Called, Stands, Reports, Shut, OverWords}
 
 -- ---- beginning
 
@@ -103,35 +104,19 @@ module _ (ws seg buf : List ℕ) where
       words-hold .stored-back ws (stream-of ws) (out .state) (fits (unfit ws) refl (tests.good-means (state-of ws) .1 (means .good))) (words-hold .read-places ws) few
   next-state (paper.refused r) e = sym (every-step (state-of ws) seg buf .refuses r e .0)
 
-  module _ (s : TpStream) (is : s ≡ stream-of ws) (r : TpStep) (buf′ : List ℕ) (ran : Ran s seg buf r buf′) (a : Answer) (says : a ≡ told no-values (verdict-said (r .answer))) (ws′ : List ℕ) where
-    -- what was seen is what the machine left of the words' state
-    steps : seen r buf′ ≡ out
-    steps = ran .steps ∙ ap (λ (t : TpStream). step (view t) seg buf) is
-
-    consumes : ws′ ≡ kept ws (out .answer) (out .state) → Consumes ws seg buf a ws′ buf′
-    consumes w =
-        record {
-          answers = says ∙ ap (λ (o : Out). told no-values (o .answer)) steps;
-          words = w;
-          buffer = ap (λ (o : Out). o .buffer) steps;
-          state = ap state-of w ∙ next-state (out .answer) refl;
-        }
-
-    pub consumed : r .answer ≡ verdict.Passed → ws′ ≡ put ws (r .stream) → Consumes ws seg buf a ws′ buf′
-    consumed e w =
-        consumes (
-        w
-        ∙ ap (put ws) (ran .places ∙ ap (λ (t : TpStream). stored t (view (r .stream))) is)
-        ∙ ap₂ {C = List ℕ} (kept ws) (ap verdict-said (sym e) ∙ ap (λ (o : Out). o .answer) steps) (ap (λ (o : Out). o .state) steps)
-        )
-
-    pub consumed-not : (q : Refusal) → r .answer ≡ verdict.Refused q → ws′ ≡ ws → Consumes ws seg buf a ws′ buf′
-    consumed-not q e w = consumes (w ∙ ap (λ (v : paper.Verdict). kept ws v (out .state)) (ap verdict-said (sym e) ∙ ap (λ (o : Out). o .answer) steps))
+  pub consumes : (v : Verdict) (ws′ buf′ : List ℕ) → Joins ws seg buf v ws′ buf′ → (a : Answer) → a ≡ told no-values (verdict-said v) → Consumes ws seg buf a ws′ buf′
+  consumes v ws′ buf′ j a says =
+      record {
+        answers = says ∙ ap (told no-values) (j .answers);
+        words = j .words;
+        buffer = j .buffer;
+        state = ap state-of (j .words) ∙ next-state (out .answer) refl;
+      }
 
 -- ---- complete, and taking
 
-pub completed : (ws : List ℕ) (s : TpStream) (b t : Bool) (r : Answer) → s ≡ stream-of ws → b ≡ complete (view s) → b ≡ t → r ≡ row 0 (one-value (cond t 1 0)) → r ≡ completes ws
-completed ws s b t r is e k q = q ∙ ap (λ (x : Bool). row 0 (one-value (cond x 1 0))) (sym k ∙ e ∙ ap (λ (u : TpStream). complete (view u)) is)
+pub completed : (ws : List ℕ) (b t : Bool) (r : Answer) → b ≡ complete (state-of ws) → b ≡ t → r ≡ row 0 (one-value (cond t 1 0)) → r ≡ completes ws
+completed ws b t r e k q = q ∙ ap (λ (x : Bool). row 0 (one-value (cond x 1 0))) (sym k ∙ e)
 
 -- the report that the machine gives stands in front
 in-front : (p : State) (buf : List ℕ) (end : ℕ) → taking p buf .answer ≡ paper.accepted end → InFront p buf end (taking p buf .buffer)
@@ -143,47 +128,39 @@ in-front p buf end e =
     let within : 16 + end ≤ length (finished (ready p (length buf)) buf) = omega arith in
     record { within = within; told-length = part-length p buf end e; part = part }
 
-module _ (ws buf : List ℕ) (s : TpStream) (is : s ≡ stream-of ws) (t : Count) (buf′ : List ℕ) (took : Took s buf t buf′) where
-  same : count-said t ≡ taking (state-of ws) buf .answer
-  same = took .answers ∙ ap (λ (u : TpStream). taking (view u) buf .answer) is
-
+module _ (ws buf : List ℕ) (t : Count) (buf′ : List ℕ) (took : Took (stream-of ws) buf t buf′) where
   -- as long as the buffer at most
   pub taken-low : (end : ℕ) → t ≡ count.Good end → 16 + end ≤ length buf
   unfolding taking
-  taken-low end e = ready-tells (state-of ws) (length buf) end (ap count-said (sym e) ∙ same) .0
+  taken-low end e = ready-tells (state-of ws) (length buf) end (ap count-said (sym e) ∙ took .answers) .0
 
   module _ (r : Answer) where
     takes : r ≡ told report-values (taking (state-of ws) buf .answer) → Takes ws buf r buf′
     takes e =
-        let left : buf′ ≡ taking (state-of ws) buf .buffer = took .writes ∙ ap (λ (u : TpStream). taking (view u) buf .buffer) is in
-        record { answers = e; buffer = left; report = λ end q. subst (InFront (state-of ws) buf end) (sym left) (in-front (state-of ws) buf end q) }
+        record {
+          answers = e;
+          buffer = took .writes;
+          report = λ end q. subst (InFront (state-of ws) buf end) (sym (took .writes)) (in-front (state-of ws) buf end q);
+        }
 
     pub taken : (end : ℕ) → t ≡ count.Good end → r ≡ told one-value (paper.accepted (16 + end)) → Takes ws buf r buf′
-    taken end e q = takes (q ∙ ap (told report-values) (ap count-said (sym e) ∙ same))
+    taken end e q = takes (q ∙ ap (told report-values) (ap count-said (sym e) ∙ took .answers))
 
     pub taken-not : (q : Refusal) → t ≡ count.Refused q → r ≡ told one-value (count-said t) → Takes ws buf r buf′
-    taken-not q e k = takes (k ∙ ap (λ (c : Count). told one-value (count-said c)) e ∙ ap (told report-values) (ap count-said (sym e) ∙ same))
+    taken-not q e k = takes (k ∙ ap (λ (c : Count). told one-value (count-said c)) e ∙ ap (told report-values) (ap count-said (sym e) ∙ took .answers))
 
 -- ---- clearing
 
-module _ (ws : List ℕ) (r : Answer) where
-  pub clears-not : unfit ws ≡ true → r ≡ refusal-row malformed-state → Clears ws r ws
-  clears-not e q =
-      record {
-        answers = q ∙ sym (ap (told no-values) (when-hit malformed-state (unfit ws) paper.pass e));
-        words = sym (ap (λ (b : Bool). cond b ws (put ws (stored (stream-of ws) (clear (state-of ws))))) e);
-        state = λ f. absurd (false≢true (sym f ∙ e));
-      }
-
-  pub clears : (s t : TpStream) (ws′ : List ℕ) → unfit ws ≡ false → s ≡ stream-of ws → t ≡ stored s (clear (view s)) → ws′ ≡ put ws t → r ≡ told no-values paper.pass → Clears ws r ws′
-  unfolding clear
-  clears s t ws′ e is c w q =
-      let words : ws′ ≡ put ws (stored (stream-of ws) (clear (state-of ws))) = w ∙ ap (put ws) (c ∙ ap (λ (u : TpStream). stored u (clear (view u))) is) in
-      record {
-        answers = q ∙ sym (ap (told no-values) (when-pass malformed-state (unfit ws) paper.pass e));
-        words = words ∙ sym (ap (λ (b : Bool). cond b ws (put ws (stored (stream-of ws) (clear (state-of ws))))) e);
-        state = λ f. ap state-of words ∙ words-hold .stored-back ws (stream-of ws) (clear (state-of ws)) (fit ws e) (words-hold .read-places ws) (omega arith);
-      }
+pub clears : (ws : List ℕ) (v : Verdict) (ws′ : List ℕ) → Cleared ws v ws′ → (r : Answer) → r ≡ told no-values (verdict-said v) → Clears ws r ws′
+unfolding clear
+clears ws v ws′ c r q =
+    record {
+      answers = q ∙ ap (told no-values) (c .answers);
+      words = c .words;
+      state = λ e.
+          ap state-of (c .words ∙ ap (λ (b : Bool). cond b ws (put ws (stored (stream-of ws) (clear (state-of ws))))) e)
+          ∙ words-hold .stored-back ws (stream-of ws) (clear (state-of ws)) (fit ws e) (words-hold .read-places ws) (omega arith);
+    }
 
 -- ---- calls one after the other
 

@@ -8,7 +8,7 @@ use mathlib.Core.Logic.{_↔_}
 use lib.ListN.{length, take}
 use lib.Dec.{ltb}
 use Rattle.numbers.specs.Refusals.{malformed-state}
-use Rattle.numbers.specs.Answers.{accepted, refused, Verdict, pass, refuse_when_else_}
+use Rattle.numbers.specs.Answers.{accepted, Verdict, pass, refuse_when_else_}
 use Rattle.tp_machine.specs.Machine.{State, Out, step, begun, begin, opened, fed, clear}
 use Rattle.tp_machine.specs.Taking.{complete, taking}
 use Rattle.tp_machine.specs.Telling.{range-told, count-told}
@@ -16,6 +16,7 @@ use Rattle.tp_machine.specs.Meaning.{range, Complete}
 use Rattle.tp_machine.specs.Runs.{admitted, Numbered, WholeEnds, Reported}
 use Rattle.tp_stream.specs.Stream.{stored, blank}
 use Rattle.tp_words.specs.Words.{size, unfit, stream-of, state-of, put}
+use Rattle.tp_lent.specs.Lent.{kept}
 use Rattle.hub.specs.declared.answers.Answer.{Answer}
 use Rattle.hub.specs.Answers.{row, told, no-values, one-value, report-values, range-values}
 
@@ -28,11 +29,6 @@ pub record Begins (ws : List ℕ) (limit : ℕ) (r : Answer) (ws′ : List ℕ) 
   pub answers : r ≡ told no-values (in-words ws (begun limit))
   pub words : ws′ ≡ put ws (stored blank (begin limit))
   pub state : size ≤ length ws → state-of ws′ ≡ begin limit
-
--- an accepted segment's state is put into the words, where the places that hold no range are as they were; a refusal leaves them alone
-abbrev pub kept : List ℕ → Verdict → State → List ℕ
-kept ws (accepted u) p = put ws (stored (stream-of ws) p)
-kept ws (refused r) p = ws
 
 -- one segment: answer, state and buffer are the machine's
 pub record Consumes (ws seg buf : List ℕ) (r : Answer) (ws′ buf′ : List ℕ) : Type 0 where

@@ -12,7 +12,6 @@ use tp_segment::HEADER_LEN;
 use tp_words::WORDS;
 use tp_words::put;
 use tp_words::stream_of;
-use tp_words::unfit;
 ghost use mathlib.Core.Path.{_≡_};
 ghost use Rattle.hub.specs.Tp.{Begins, Consumes, completes, Takes, Clears, counts, ranges};
 
@@ -36,13 +35,10 @@ pub extern "C" fn viaductle_begin(words: &mut [u32], limit: u32) -> Answer
 pub extern "C" fn viaductle_consume(words: &mut [u32], segment: &[u8], buffer: &mut [u8]) -> Answer
     ensures { λ r. ⌜ Consumes (now (words .entry)) (now (segment .entry)) (now (buffer .entry)) r (now (words .exit)) (now (buffer .exit)) ⌝ }
 {
-    let step = tp_stream::consume(stream_of(words), segment, buffer);
-    let answer = step.answer;
+    let answer = tp_lent::consume(words, segment, buffer);
     let Verdict::Passed = answer else {
         return refused(answer.refusal());
     };
-    let stream = step.stream;
-    put(words, stream);
     accepted()
 }
 
@@ -51,7 +47,7 @@ pub extern "C" fn viaductle_consume(words: &mut [u32], segment: &[u8], buffer: &
 pub extern "C" fn viaductle_complete(words: &[u32]) -> Answer
     ensures { λ r. ⌜ r ≡ completes (now (words .entry)) ⌝ }
 {
-    if tp_stream::complete(stream_of(words)) {
+    if tp_lent::complete(words) {
         return count_answer(Count::Good(1));
     }
     count_answer(Count::Good(0))
@@ -62,7 +58,7 @@ pub extern "C" fn viaductle_complete(words: &[u32]) -> Answer
 pub extern "C" fn viaductle_take(words: &[u32], buffer: &mut [u8]) -> Answer
     ensures { λ r. ⌜ Takes (now (words .entry)) (now (buffer .entry)) r (now (buffer .exit)) ⌝ }
 {
-    let answer = tp_stream::take(stream_of(words), buffer);
+    let answer = tp_lent::take(words, buffer);
     let Count::Good(end) = answer else {
         return count_answer(answer);
     };
@@ -75,11 +71,7 @@ pub extern "C" fn viaductle_take(words: &[u32], buffer: &mut [u8]) -> Answer
 pub extern "C" fn viaductle_clear(words: &mut [u32]) -> Answer
     ensures { λ r. ⌜ Clears (now (words .entry)) r (now (words .exit)) ⌝ }
 {
-    if unfit(words) {
-        return refused(Refusal::MalformedState);
-    }
-    put(words, tp_stream::clear(stream_of(words)));
-    verdict_answer(Verdict::Passed)
+    verdict_answer(tp_lent::clear(words))
 }
 
 // How many segments were accepted since the stream was begun or cleared: 38, or their count.

@@ -5,20 +5,15 @@ use Rattle.hub.proofs.tp.viaductle_complete.Statement.{statement}
 use Rattle.hub.proofs.tp.viaductle_complete.Tie as tie
 
 returns : tie.Need-returns
-returns c =
-    let at-complete = c .before .before in
-    completed _ _ _ _ _ (at-complete .before .stream-of .ensures) (at-complete .complete .ensures) (c .before .if1 .taken) (c .count-answer .ensures)
+returns c = completed _ _ _ _ (c .before .before .complete .ensures) (c .before .if1 .taken) (c .count-answer .ensures)
 
 returns-2 : tie.Need-returns-2
-returns-2 c =
-    let at-complete = c .before .before in
-    completed _ _ _ _ _ (at-complete .before .stream-of .ensures) (at-complete .complete .ensures) (c .before .if1 .left) (c .count-answer2 .ensures)
+returns-2 c = completed _ _ _ _ (c .before .before .complete .ensures) (c .before .if1 .left) (c .count-answer2 .ensures)
 
 pub viaductle-complete-spec : {M : Type 1} → statement M
 viaductle-complete-spec =
     tie.close
     (tie.spec
-    (λ c κs. search needs)
     (λ c κs. search needs)
     (λ c κs. search needs)
     returns
