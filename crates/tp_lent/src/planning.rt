@@ -58,11 +58,15 @@ fn least_end(words: &[u32], count: usize, more: bool) -> u32
     last_end(words, count)
 }
 
-// Whether a segment with that header is not refused by 31 to 34, for a buffer of `room` bytes.
+// Whether a segment with that header is copied at once, and not refused by 31 to 34, for a buffer of `room` bytes. (A longer one is copied by a loop, and
+// with that in this way every segment would take longer.)
 fn passes(words: &[u32], count: usize, header: TpHeader, room: usize) -> bool
     requires { ⌜ (count ≤ most) × (size ≤ length (now words)) ⌝ }
     ensures { λ r. ⌜ (r ≡ true → header-judged (getD (now (words .entry)) 0 0) (end-of (getD (now (words .entry)) 2 0) (getD (now (words .entry)) 3 0)) (cond (header .more) 0 (last-end (now (words .entry)) count)) header room ≡ pass) ⌝ }
 {
+    if tp_stream::AT_ONCE < header.size {
+        return false;
+    }
     let end = tp_words::end_of(words[2], words[3]);
     let least = least_end(words, count, header.more);
     let Verdict::Passed = tp_stream::judge_header(words[0], end, least, header, room) else {

@@ -33,6 +33,7 @@ pub use taking::whole;
 pub use telling::RangeAnswer;
 pub use telling::accepted;
 pub use telling::range_from;
+pub use writing::AT_ONCE;
 pub use writing::put_length;
 pub use writing::write;
 

@@ -7,8 +7,8 @@ ghost use Rattle.tp_stream.specs.Writing.{written-at, length-put};
 use tp_segment::HEADER_LEN;
 use tp_segment::SEGMENT_HEADER_LEN;
 
-// How many bytes are copied at once.
-const MOST: usize = 2048;
+// How many bytes are copied at once, at most.
+pub const AT_ONCE: usize = 2048;
 
 // Copies a few bytes into buf from index `at`. They go by way of an array of its own, which shares no byte with either slice: so the compiler sees
 // that all are read before any is written, leaves the array out, and makes one `memmove` of both loops.
@@ -16,7 +16,7 @@ fn put_few(buf: &mut [u8], at: usize, src: &[u8])
     requires { ⌜ (length (now src) ≤ 2048) × (at + length (now src) ≤ length (now buf)) ⌝ }
     ensures { λ _. ⌜ now (buf .exit) ≡ pasted (now (buf .entry)) at (now (src .entry)) ⌝ }
 {
-    let mut few = [0; MOST];
+    let mut few = [0; AT_ONCE];
     let mut i: usize = 0;
     while i < src.len() {
         few[i] = src[i];
@@ -46,7 +46,7 @@ fn put(buf: &mut [u8], at: usize, src: &[u8])
     requires { ⌜ at + length (now src) ≤ length (now buf) ⌝ }
     ensures { λ _. ⌜ now (buf .exit) ≡ pasted (now (buf .entry)) at (now (src .entry)) ⌝ }
 {
-    if MOST < src.len() {
+    if AT_ONCE < src.len() {
         put_each(buf, at, src);
         return;
     }

@@ -12,10 +12,13 @@ returns : tie.Need-returns
 returns c e = absurd (false≢true e)
 
 returns-2 : tie.Need-returns-2
-returns-2 c e =
+returns-2 c e = absurd (false≢true e)
+
+returns-3 : tie.Need-returns-3
+returns-3 c e =
     let at-judged = c .before .before in
     let at-least = at-judged .before .before in
-    let a = at-least .before .before .before .before .before .args in
+    let a = at-least .before .before .before .before .before .before .before .args in
     sym (at-judged .judge-header .ensures ∙ (λ i. header-judged (getD (a .words .now) 0 0) (at-least .before .end-of .ensures i) (at-least .least-end .ensures i) (a .header) (a .room)))
     ∙ ap verdict-said (c .enum-told .given .1)
 
@@ -23,13 +26,14 @@ pub passes-spec : {M : Type 1} → statement M
 passes-spec =
     tie.close
     (tie.spec
-    (λ c. search needs)
-    (λ c. search needs)
-    (λ c κs. search needs)
-    (λ c κs. search needs)
-    (λ c. search needs)
-    (λ c κs. search needs)
-    (λ c. search needs)
-    (λ c. search needs)
     returns
-    returns-2)
+    (λ c. search needs)
+    (λ c. search needs)
+    (λ c κs. search needs)
+    (λ c κs. search needs)
+    (λ c. search needs)
+    (λ c κs. search needs)
+    (λ c. search needs)
+    (λ c. search needs)
+    returns-2
+    returns-3)
