@@ -485,7 +485,9 @@ pub fn run<P: Calls>(port: &P, meter: &Meter, seed: u64) {
             println!();
         }
     }
-    println!("\n| one segment of 16 bytes | ranges held | crate, {unit} | Viaductle, {unit} | ratio |");
+    println!(
+        "\n| one segment of 16 bytes | ranges held | crate, {unit} | Viaductle, {unit} | ratio |"
+    );
     println!("|---|---|---|---|---|");
     for ranges in [1, 2, 4, 8, 16, 32, MOST_RANGES] {
         let [theirs, ours] = held(port, meter, ranges);

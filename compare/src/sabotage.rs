@@ -73,6 +73,7 @@ pub enum Fault {
     NumberPastCountTaken,
     RangesToldAsHeld,
     RangesCounted,
+    OutOfOrderRefused,
 }
 
 use Fault::*;
@@ -120,7 +121,7 @@ const SERVICE_DISCOVERY: [Fault; 40] = [
     TableLeftAfterProtocol,
     InputDamaged,
 ];
-const STREAMS: [Fault; 26] = [
+const STREAMS: [Fault; 27] = [
     SegmentSwallowed,
     FirstBytesWin,
     EndIgnored,
@@ -147,6 +148,7 @@ const STREAMS: [Fault; 26] = [
     NumberPastCountTaken,
     RangesToldAsHeld,
     RangesCounted,
+    OutOfOrderRefused,
 ];
 
 /// A port with one fault.
@@ -446,6 +448,9 @@ impl<P: Calls> Calls for Faulty<'_, P> {
         let (held, bytes) = (state.to_vec(), buffer.to_vec());
         if self.is(RangePastEndTaken) && past_end(state) {
             return Answer::default();
+        }
+        if self.is(OutOfOrderRefused) && !ranges_of(state).is_sorted() {
+            return Answer::new(38, &[]);
         }
         if self.is(NumberZeroTaken) && number_at_zero(state) == Some(0)
             || self.is(NumberPastCountTaken)

@@ -14,13 +14,19 @@ use crate::tp_inputs::{Sequence, Step};
 /// Why a sequence is no equal run, though all of it is compared: the rules refuse by 33 what the crate takes.
 const ENDS_BEHIND: &str = "sequences in which a final segment ends behind data held";
 
+/// One sequence in so many runs a second time, the ranges of its words turned round before each call.
+const TURNED: u64 = 8;
+
+/// How such runs are called.
+const OUT_OF_ORDER: &str = "sequences over words out of order";
+
 /// Up to how many ranges are told one by one after each step; more are at a sequence's end.
 const FEW_RANGES: usize = 8;
 
 /// How words that are one too few are called.
 const ONE_FEWER: &str = "a word fewer than a state has";
 
-/// A way to damage a state.
+/// A way to change a state, most often to damage it.
 type Spoil = fn(&mut [u32; WORDS]);
 
 /// A stream of the port: its state and the lent buffer.
@@ -59,6 +65,14 @@ fn cleared(state: &[u32; WORDS]) -> [u32; WORDS] {
     words
 }
 
+/// The ranges in reverse, as no call leaves two of them: what is answered is the same.
+fn turn(state: &mut [u32; WORDS]) {
+    let ranges: Vec<_> = ranges_of(state).collect();
+    for (place, range) in ranges.iter().rev().enumerate() {
+        put_range(state, place, *range);
+    }
+}
+
 /// Words that hold these ranges and no other, of segments of which so many were accepted.
 fn hold(state: &mut [u32; WORDS], accepted: u32, ranges: &[[u32; RANGE_WORDS]]) {
     (state[1], state[4]) = (ranges.len() as u32, accepted);
@@ -72,6 +86,8 @@ pub struct Tp<'a, P> {
     pub tally: Tally,
     /// A buffer of the largest size as it is before any call.
     untouched: Vec<u8>,
+    /// How many sequences there were.
+    sequences: u64,
 }
 
 impl<'a, P: Calls> Tp<'a, P> {
@@ -80,12 +96,23 @@ impl<'a, P: Calls> Tp<'a, P> {
             port,
             tally: Tally::default(),
             untouched: (0..16 + MOST_LIMIT as usize + 16).map(before).collect(),
+            sequences: 0,
+        }
+    }
+
+    /// One sequence, and at times the same one over words that are out of order.
+    pub fn sequence(&mut self, kind: &'static str, sequence: &Sequence) {
+        self.sequences += 1;
+        self.run(kind, sequence, |_| ());
+        if self.sequences % TURNED == 0 {
+            self.run(OUT_OF_ORDER, sequence, turn);
         }
     }
 
     /// One sequence inside the rules' domain: the buffer has room for the limit. A segment that would make a range too many is not handed to
-    /// the crate; 35 is due. Nor is a final segment that ends behind data held; 33 is due, and the sequence is none of the equal runs.
-    pub fn sequence(&mut self, kind: &'static str, sequence: &Sequence) {
+    /// the crate; 35 is due. Nor is a final segment that ends behind data held; 33 is due, and the sequence is none of the equal runs. What is
+    /// done to the words before each call changes nothing that is answered.
+    fn run(&mut self, kind: &'static str, sequence: &Sequence, between: Spoil) {
         let room = 16 + sequence.limit as usize + sequence.spare;
         let behind = ends::behind(sequence, room);
         if behind.is_empty() {
@@ -106,6 +133,7 @@ impl<'a, P: Calls> Tp<'a, P> {
         let mut most = 0;
         for number in 0..sequence.steps.len() {
             let due = ends::due(&behind, number);
+            between(&mut lent.state);
             let held = self.step(
                 due,
                 (&mut stream, &mut arrivals),
