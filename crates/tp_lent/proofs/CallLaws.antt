@@ -76,7 +76,7 @@ module _ (ws seg buf : List ℕ) where
 
 -- ---- words in order
 module _ (ws : List ℕ) (is : in-order ws ≡ true) where
-  both : (unready ws ≡ false) × (rising (state-of ws) 0 (held ws) ≡ true)
+  pub both : (unready ws ≡ false) × (rising (state-of ws) 0 (held ws) ≡ true)
   both = let a = and-inv _ (rising (state-of ws) 0 (held ws)) is in (not-true (unready ws) (a .0), a .1)
 
   pub wide : size ≤ length ws

@@ -18,7 +18,7 @@ use Rattle.tp_machine.specs.Meaning.{Good}
 use Rattle.tp_machine.proofs.Tests as tests
 use Rattle.tp_range.specs.Joining.{none}
 use Rattle.tp_stream.specs.declared.TpStream.{TpStream}
-use Rattle.tp_stream.specs.Stream.{view}
+use Rattle.tp_stream.specs.Stream.{held as all-held, view}
 use Rattle.tp_stream.specs.Promises.{Reach}
 use Rattle.tp_stream.proofs.StreamLaws.{held-take}
 use Rattle.tp_stream.proofs.MalformedLaws.{reach-limit, reach-end, two-touch}
@@ -43,6 +43,27 @@ module _ (known end limit : ℕ) where
   reach-top false e h p l q =
       subst (Reach p) (sym (ap (λ (t : Bool). cond t limit end) e))
       (reach-end p limit (end-of known end) end (not-past false e h) l q (ap (λ (t : Bool). cond t Unknown (Known end)) e))
+
+-- ---- words that are fit: the state that they hold, by its fields
+module _ (ws : List ℕ) (fit-so : unfit ws ≡ false) where
+  read : held-in ws ≡ stream-of ws
+  read = told ws fit-so
+
+  pub state-limit : state-of ws .limit ≡ getD ws 0 0
+  unfolding held-in
+  state-limit = ap (λ (s : TpStream). s .limit) (sym read)
+
+  pub state-end : state-of ws .end ≡ end-of (getD ws 2 0) (getD ws 3 0)
+  unfolding held-in
+  state-end = ap (λ (s : TpStream). s .end) (sym read)
+
+  pub state-count : state-of ws .count ≡ getD ws 4 0
+  unfolding held-in
+  state-count = ap (λ (s : TpStream). s .accepted) (sym read)
+
+  pub state-ranges : state-of ws .ranges ≡ all-held (getD ws 1 0) (ranges-in ws most)
+  unfolding held-in
+  state-ranges = ap (λ (s : TpStream). view s .ranges) (sym read)
 
 module _ (ws : List ℕ) (ready : unready ws ≡ false) where
   abbrev limit : ℕ
@@ -78,25 +99,17 @@ module _ (ws : List ℕ) (ready : unready ws ≡ false) where
   pub top-low : top-of ws ≤ highest
   top-low = omega (arith, low, reaches)
 
-  -- ---- the state that they hold, by its fields
-  is : held-in ws ≡ stream-of ws
-  is = told ws fits
-
   pub limit-is : p .limit ≡ limit
-  unfolding held-in
-  limit-is = ap (λ (s : TpStream). s .limit) (sym is)
+  limit-is = state-limit ws fits
 
   pub end-is : p .end ≡ end-of known (getD ws 3 0)
-  unfolding held-in
-  end-is = ap (λ (s : TpStream). s .end) (sym is)
+  end-is = state-end ws fits
 
   pub count-is : p .count ≡ getD ws 4 0
-  unfolding held-in
-  count-is = ap (λ (s : TpStream). s .accepted) (sym is)
+  count-is = state-count ws fits
 
   pub ranges-are : p .ranges ≡ held ws
-  unfolding held-in
-  ranges-are = ap (λ (s : TpStream). view s .ranges) (sym is) ∙ held-take count (ranges-in ws most) (omega (arith, in-length ws most, few))
+  ranges-are = state-ranges ws fits ∙ held-take count (ranges-in ws most) (omega (arith, in-length ws most, few))
 
   pub reach : Reach p (top-of ws)
   reach = reach-top known (getD ws 3 0) limit (eqb known 0) refl reaches p limit-is end-is
@@ -107,7 +120,7 @@ module _ (ws : List ℕ) (ready : unready ws ≡ false) where
     unfolding held-in
     not-malformed =
         let q : State = view (held-in ws) in
-        let same : q ≡ p = ap view is in
+        let same : q ≡ p = ap view (told ws fits) in
         ap bad-state (sym same)
         ∙ sym (two-touch (held-in ws) few low (not-past known (getD ws 3 0) limit (eqb known 0) refl reaches) (in-length ws most) (ap (λ (x : State). any (bad-range x) (held ws)) same ∙ none-bad p 0 (held ws) order))
         ∙ none-touch p 0 (held ws) order

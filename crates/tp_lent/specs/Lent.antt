@@ -1,9 +1,9 @@
 -- Words that are judged and changed where they stand. Assumes nothing: these are definitions.
-use Prim.Native.Nat.{ℕ, _+_, _*_, _-_, _<_, min, max}
+use Prim.Native.Nat.{ℕ, _+_, _*_, _-_, _≤_, _<_, min, max}
 use mathlib.Core.Path.{_≡_}
 use mathlib.Core.Bool.{Bool, true, false, _&&_, _||_, not, cond}
 use mathlib.Core.List.{List, [], _∷_, _++_}
-use mathlib.Core.Logic.{_⊎_}
+use mathlib.Core.Logic.{_⊎_, _↔_}
 use lib.ListN.{length, take, drop, getD, set}
 use lib.Dec.{ltb, eqb}
 use Rattle.numbers.specs.Refusals.{malformed-state}
@@ -15,8 +15,10 @@ use Rattle.tp_machine.specs.Lists.{counted}
 use Rattle.tp_machine.specs.Ranges.{ends-before, begins-by}
 use Rattle.tp_machine.specs.Segments.{offset, more, end-of as end-of-segment, written}
 use Rattle.tp_machine.specs.Machine.{most, highest, last-number, State, bad-range, taken, step, clear}
-use Rattle.tp_machine.specs.Meaning.{range-of}
+use Rattle.tp_machine.specs.Meaning.{range-of, InOrder, Good}
+use Rattle.tp_machine.specs.Runs.{Reached}
 use Rattle.tp_segment.specs.Reading.{header-of}
+use Rattle.tp_stream.specs.declared.TpStream.{TpStream}
 use Rattle.tp_stream.specs.Stream.{stored}
 use Rattle.tp_stream.specs.Promises.{Passed}
 use Rattle.tp_words.specs.Words.{size, unfit, range-at, ranges-in, stream-of, state-of, flat, put}
@@ -66,6 +68,11 @@ pub record Surveys (p : State) (rs : List TpRange) (start end : ℕ) (r : Found)
 -- words that hold a stream that is not malformed, its ranges in order
 abbrev pub in-order : List ℕ → Bool
 in-order ws = not (unready ws) && rising (state-of ws) 0 (held ws)
+
+-- what that means, both ways; and words into which a state is put that a run comes to are in order, so that one pass judges them
+pub record OrderMeans : Type 0 where
+  pub means : (ws : List ℕ) → (in-order ws ≡ true) ↔ ((unfit ws ≡ false) × Good (state-of ws) × InOrder (state-of ws .ranges))
+  pub reached : (ws : List ℕ) (s : TpStream) (p : State) → size ≤ length ws → length (s .ranges) ≡ most → Reached p → in-order (put ws (stored s p)) ≡ true
 
 -- ---- one segment, accepted at once
 

@@ -44,7 +44,7 @@ pub fn consume(words: &mut [u32], seg: &[u8], buf: &mut [u8]) -> Verdict
     consume_by_value(words, seg, buf)
 }
 
-// Whether the stream is complete.
+// Whether the stream is complete. If it is, it has one range, and so words that are in order.
 pub fn complete(words: &[u32]) -> bool
     ensures { λ r. ⌜ r ≡ complete-of (state-of (now (words .entry))) ⌝ }
 {
@@ -52,7 +52,7 @@ pub fn complete(words: &[u32]) -> bool
         let end = tp_words::end_of(words[2], words[3]);
         return tp_stream::whole(end, words[1] as usize, ranges::range_at(words, 0));
     }
-    tp_stream::complete(stream_of(words))
+    false
 }
 
 // Taking the report: answers 38, 37 and 34, or the length field is written and where the payload ends is told.

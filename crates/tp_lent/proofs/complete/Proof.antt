@@ -1,16 +1,14 @@
 -- `tp_lent::complete` meets its contract. Assumes nothing.
 use Prim.Native.Nat.{ℕ, _≤_}
-use mathlib.Core.Path.{_≡_, sym, ap, _∙_}
+use mathlib.Core.Path.{_≡_, sym, _∙_}
 use mathlib.Core.Bool.{true}
 use mathlib.Core.List.{List}
 use native.Mathlib.Omega.{arith}
 use lib.ListN.{length}
-use Rattle.tp_machine.specs.Taking.{complete}
-use Rattle.tp_stream.specs.declared.TpStream.{TpStream}
-use Rattle.tp_stream.specs.Stream.{view}
 use Rattle.tp_words.specs.Words.{size}
 use Rattle.tp_lent.specs.Lent.{in-order}
 use Rattle.tp_lent.proofs.CallLaws.{wide, completes}
+use Rattle.tp_lent.proofs.OrderMeans.{incomplete}
 use borrow.Author.Needs.{needs}
 use Rattle.tp_lent.proofs.complete.Statement.{statement}
 use Rattle.tp_lent.proofs.complete.Tie as tie
@@ -48,7 +46,7 @@ returns c =
     c .whole .ensures ∙ completes (ws t) (order t) (at-end .end-of .result) (at-range .range-at .result) (at-end .end-of .ensures) (at-range .range-at .ensures)
 
 returns-2 : tie.Need-returns-2
-returns-2 c = c .complete .ensures ∙ ap (λ (s : TpStream). complete (view s)) (c .before .stream-of .ensures)
+returns-2 c = incomplete (c .before .before .before .args .words .now) (sym (c .before .in-order .ensures) ∙ c .if1 .left)
 
 pub complete-spec : {M : Type 1} → statement M
 complete-spec =
@@ -63,6 +61,4 @@ complete-spec =
     range-at-requires
     (λ c κs. search needs)
     returns
-    (λ c κs. search needs)
-    (λ c κs. search needs)
     returns-2)
