@@ -117,8 +117,8 @@ impl<'a, P: Calls> Tp<'a, P> {
         let behind = ends::behind(sequence, room);
         if behind.is_empty() {
             self.tally.input(kind);
-        } else {
-            self.tally.leave_out(ENDS_BEHIND);
+        } else if kind != OUT_OF_ORDER {
+            self.tally.leave_out(ENDS_BEHIND); // once, and not again when it runs a second time
         }
         let mut lent = Lent::new(room);
         let mut stream = Stream::begin(sequence.limit);

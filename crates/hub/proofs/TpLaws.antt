@@ -1,7 +1,7 @@
 -- The calls of a stream over words, from what the calls of `tp_stream` and `tp_words` promise; and what follows of calls one after the other.
 -- Assumes nothing.
 use Prim.Native.Nat.{ℕ, _+_, _≤_, _<_}
-use mathlib.Core.Path.{_≡_, refl, sym, ap, ap₂, subst, _∙_}
+use mathlib.Core.Path.{_≡_, refl, sym, ap, subst, _∙_}
 use mathlib.Core.Bool.{Bool, true, false, cond, false≢true}
 use mathlib.Core.List.{List, [], _∷_}
 use mathlib.Core.Logic.{_↔_, _≢_, inl, ⊎-elim}
@@ -33,7 +33,6 @@ use Rattle.tp_machine.proofs.Steps.{every-step, ready-tells, finished-length, p
 use Rattle.tp_machine.proofs.Tests as tests
 use Rattle.tp_machine.proofs.Report.{every-report}
 use Rattle.tp_machine.proofs.Ends.{every-end}
-use Rattle.tp_stream.specs.declared.TpStream.{TpStream}
 use Rattle.tp_stream.specs.declared.TpStep.{TpStep}
 use Rattle.tp_stream.specs.Stream.{stored, blank}
 use Rattle.tp_stream.specs.Promises.{Began, Took}

@@ -1,12 +1,12 @@
 -- The calls over lent words, from what is done in place and from what the calls by value promise. Assumes nothing.
 use Prim.Native.Nat.{ℕ, _+_, _≤_}
-use mathlib.Core.Path.{_≡_, refl, sym, ap, ap₂, _∙_}
+use mathlib.Core.Path.{_≡_, sym, ap, ap₂, _∙_}
 use mathlib.Core.Bool.{Bool, true, false, cond}
 use mathlib.Core.List.{List, _∷_, _++_}
 use native.Mathlib.Omega.{arith}
 use lib.ListN.{length, drop, getD}
 use Rattle.numbers.specs.Refusals.{malformed-state}
-use Rattle.numbers.specs.Answers.{Answer, accepted, refused, pass}
+use Rattle.numbers.specs.Answers.{accepted, pass}
 use Rattle.numbers.specs.Answers as paper
 use Rattle.numbers.proofs.AnswerLaws.{when-hit, when-pass}
 use Rattle.numbers.proofs.TestLaws.{and-inv}
@@ -14,11 +14,11 @@ use Rattle.refusal.specs.declared.Refusal.{Refusal}
 use Rattle.refusal.specs.declared.Refusal.the-variants.{MalformedState}
 use Rattle.refusal.specs.declared.answers.Verdict.{Verdict}
 use Rattle.refusal.specs.declared.answers.Verdict.the-variants as verdict
-use Rattle.refusal.specs.Said.{said, verdict-said}
+use Rattle.refusal.specs.Said.{verdict-said}
 use Rattle.tp_machine.specs.declared.TpRange.{TpRange}
 use Rattle.tp_machine.specs.declared.TpEnd.{TpEnd}
 use Rattle.tp_machine.specs.declared.TpEnd.the-variants.{Unknown}
-use Rattle.tp_machine.specs.Machine.{most, State, Out, step, clear, bad-state}
+use Rattle.tp_machine.specs.Machine.{most, Out, step, clear}
 use Rattle.tp_machine.specs.Taking.{complete, ready}
 use Rattle.tp_machine.proofs.Steps.{every-step}
 use Rattle.tp_range.specs.Joining.{none}
@@ -33,7 +33,7 @@ use Rattle.tp_words.specs.Words.{size, range-at, ranges-in, end-of, unfit, held
 use Rattle.tp_words.proofs.WordLaws.{in-length}
 use Rattle.tp_words.proofs.PutLaws.{fit, told, put-all}
 use Rattle.tp_lent.specs.declared.planning.Plan.{Plan}
-use Rattle.tp_lent.specs.Lent.{held, spread, unready, rising, in-order, Planned, CarriedOut, kept, Joins, Cleared}
+use Rattle.tp_lent.specs.Lent.{held, unready, rising, in-order, Planned, CarriedOut, kept, Joins, Cleared}
 use Rattle.tp_lent.proofs.PlaceLaws.{ranges-at, spread-self, spread-behind}
 use Rattle.tp_lent.proofs.RisingLaws.{not-true}
 use Rattle.tp_lent.proofs.ReadyLaws.{enough, few, end-is, ranges-are, not-malformed}

@@ -10,7 +10,6 @@ use lib.ListN.{length, take, getD}
 use lib.Seq.{length-take-le, getD-take}
 use Rattle.numbers.proofs.TestLaws.{or-inv}
 use Rattle.tp_machine.specs.declared.TpRange.{TpRange}
-use Rattle.tp_machine.specs.declared.TpEnd.{TpEnd}
 use Rattle.tp_machine.specs.declared.TpEnd.the-variants.{Unknown, Known}
 use Rattle.tp_machine.specs.Ranges.{any, greatest-end}
 use Rattle.tp_machine.specs.Machine.{most, highest, State, bad-range, end-past, bad-state}
@@ -22,7 +21,7 @@ use Rattle.tp_stream.specs.Stream.{held as all-held, view}
 use Rattle.tp_stream.specs.Promises.{Reach}
 use Rattle.tp_stream.proofs.StreamLaws.{held-take}
 use Rattle.tp_stream.proofs.MalformedLaws.{reach-limit, reach-end, two-touch}
-use Rattle.tp_words.specs.Words.{size, range-at, ranges-in, end-of, unfit, held-in, stream-of, state-of}
+use Rattle.tp_words.specs.Words.{size, ranges-in, end-of, unfit, held-in, stream-of, state-of}
 use Rattle.tp_words.proofs.WordLaws.{in-length}
 use Rattle.tp_words.proofs.PutLaws.{fit, told}
 use Rattle.tp_lent.specs.Lent.{held, top-of, unready, last-end, rising}

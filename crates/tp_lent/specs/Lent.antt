@@ -1,4 +1,4 @@
--- Words that are judged and changed where they stand. Assumes nothing: these are definitions.
+-- What is promised of the calls over lent words, which words are in order, and what stands between the parts of the code. Assumes nothing: these are definitions.
 use Prim.Native.Nat.{ℕ, _+_, _*_, _-_, _≤_, _<_, min, max}
 use mathlib.Core.Path.{_≡_}
 use mathlib.Core.Bool.{Bool, true, false, _&&_, _||_, not, cond}
@@ -25,18 +25,25 @@ use Rattle.tp_words.specs.Words.{size, unfit, range-at, ranges-in, stream-of, s
 use Rattle.tp_lent.specs.declared.order.Found.{Found}
 use Rattle.tp_lent.specs.declared.planning.Plan.{Plan}
 
--- words with an array of ranges in the places of theirs
-abbrev pub spread : List ℕ → List TpRange → List ℕ
-spread ws rs = take 5 ws ++ (flat rs ++ drop size ws)
+-- ---- what is promised of the calls
 
--- a range stored at place i
-abbrev pub put-range : List ℕ → ℕ → TpRange → List ℕ
-put-range ws i r = set (set (set ws (5 + 3 * i) (r .start)) (5 + 3 * i + 1) (r .end)) (5 + 3 * i + 2) (r .number)
+-- an accepted segment's state is put into the words, where the places that hold no range are as they were; a refusal leaves them alone
+abbrev pub kept : List ℕ → Verdict → State → List ℕ
+kept ws (accepted u) p = put ws (stored (stream-of ws) p)
+kept ws (refused r) p = ws
 
--- n, and where there are ranges from `before` up to `behind`, as far as the first of them begins and the last ends
-abbrev pub spanned : List ℕ → (before behind : ℕ) → TpRange → TpRange
-spanned ws before behind n =
-    cond (eqb before behind) n (record { start = min (range-at ws before .start) (n .start); end = max (range-at ws (behind - 1) .end) (n .end); number = n .number })
+-- one segment: answer, words and buffer are the machine's
+pub record Joins (ws seg buf : List ℕ) (v : code.Verdict) (ws′ buf′ : List ℕ) : Type 0 where
+  pub answers : verdict-said v ≡ step (state-of ws) seg buf .answer
+  pub words : ws′ ≡ kept ws (step (state-of ws) seg buf .answer) (step (state-of ws) seg buf .state)
+  pub buffer : buf′ ≡ step (state-of ws) seg buf .buffer
+
+-- clearing: 38 where the words are unfit, and they are left alone
+pub record Cleared (ws : List ℕ) (v : code.Verdict) (ws′ : List ℕ) : Type 0 where
+  pub answers : verdict-said v ≡ (refuse malformed-state when unfit ws else pass)
+  pub words : ws′ ≡ cond (unfit ws) ws (put ws (stored (stream-of ws) (clear (state-of ws))))
+
+-- ---- words in order
 
 -- the ranges that words tell
 abbrev pub held : List ℕ → List TpRange
@@ -50,20 +57,10 @@ top-of ws = cond (eqb (getD ws 2 0) 0) (getD ws 0 0) (getD ws 3 0)
 abbrev pub unready : List ℕ → Bool
 unready ws = unfit ws || (ltb most (getD ws 1 0) || (ltb highest (getD ws 0 0) || ltb (getD ws 0 0) (top-of ws)))
 
--- the end of the last of n ranges; 0 of none
-abbrev pub last-end : List ℕ → ℕ → ℕ
-last-end ws n = cond (eqb n 0) 0 (range-at ws (n - 1) .end)
-
 -- each range begins at `low` or behind it and is not bad, and those behind it begin behind its end
 unfoldable pub rising : State → (low : ℕ) → List TpRange → Bool
 rising p low [] = true
 rising p low (r ∷ rs) = not (ltb (r .start) low) && (not (bad-range p r) && rising p (r .end + 1) rs)
-
--- what one pass tells of ranges that stand in order: how many end before `start`, and how many begin at `end` or before
-pub record Surveys (p : State) (rs : List TpRange) (start end : ℕ) (r : Found) : Type 0 where
-  pub fine : r .fine ≡ rising p 0 rs
-  pub before : r .fine ≡ true → r .before ≡ counted (ends-before start) rs
-  pub behind : r .fine ≡ true → r .behind ≡ counted (begins-by end) rs
 
 -- words that hold a stream that is not malformed, its ranges in order
 abbrev pub in-order : List ℕ → Bool
@@ -74,7 +71,30 @@ pub record OrderMeans : Type 0 where
   pub means : (ws : List ℕ) → (in-order ws ≡ true) ↔ ((unfit ws ≡ false) × Good (state-of ws) × InOrder (state-of ws .ranges))
   pub reached : (ws : List ℕ) (s : TpStream) (p : State) → size ≤ length ws → length (s .ranges) ≡ most → Reached p → in-order (put ws (stored s p)) ≡ true
 
--- ---- one segment, accepted at once
+-- ---- between the parts of the code
+
+-- words with an array of ranges in the places of theirs
+abbrev pub spread : List ℕ → List TpRange → List ℕ
+spread ws rs = take 5 ws ++ (flat rs ++ drop size ws)
+
+-- a range stored at place i
+abbrev pub put-range : List ℕ → ℕ → TpRange → List ℕ
+put-range ws i r = set (set (set ws (5 + 3 * i) (r .start)) (5 + 3 * i + 1) (r .end)) (5 + 3 * i + 2) (r .number)
+
+-- n, and where there are ranges from `before` up to `behind`, as far as the first of them begins and the last ends
+abbrev pub spanned : List ℕ → (before behind : ℕ) → TpRange → TpRange
+spanned ws before behind n =
+    cond (eqb before behind) n (record { start = min (range-at ws before .start) (n .start); end = max (range-at ws (behind - 1) .end) (n .end); number = n .number })
+
+-- the end of the last of n ranges; 0 of none
+abbrev pub last-end : List ℕ → ℕ → ℕ
+last-end ws n = cond (eqb n 0) 0 (range-at ws (n - 1) .end)
+
+-- what one pass tells of ranges that stand in order: how many end before `start`, and how many begin at `end` or before
+pub record Surveys (p : State) (rs : List TpRange) (start end : ℕ) (r : Found) : Type 0 where
+  pub fine : r .fine ≡ rising p 0 rs
+  pub before : r .fine ≡ true → r .before ≡ counted (ends-before start) rs
+  pub behind : r .fine ≡ true → r .behind ≡ counted (begins-by end) rs
 
 -- the ranges are in order, and one of them is joined, or there is a place for one more
 pub record RoomLeft (f : Found) (count : ℕ) : Type 0 where
@@ -97,21 +117,3 @@ pub record Planned (ws seg : List ℕ) (room : ℕ) (r : Plan) : Type 0 where
 pub record CarriedOut (ws seg buf ws′ buf′ : List ℕ) : Type 0 where
   pub words : ws′ ≡ put ws (stored (stream-of ws) (taken (state-of ws) seg))
   pub buffer : buf′ ≡ written buf seg
-
--- ---- what is promised of the calls
-
--- an accepted segment's state is put into the words, where the places that hold no range are as they were; a refusal leaves them alone
-abbrev pub kept : List ℕ → Verdict → State → List ℕ
-kept ws (accepted u) p = put ws (stored (stream-of ws) p)
-kept ws (refused r) p = ws
-
--- one segment: answer, words and buffer are the machine's
-pub record Joins (ws seg buf : List ℕ) (v : code.Verdict) (ws′ buf′ : List ℕ) : Type 0 where
-  pub answers : verdict-said v ≡ step (state-of ws) seg buf .answer
-  pub words : ws′ ≡ kept ws (step (state-of ws) seg buf .answer) (step (state-of ws) seg buf .state)
-  pub buffer : buf′ ≡ step (state-of ws) seg buf .buffer
-
--- clearing: 38 where the words are unfit, and they are left alone
-pub record Cleared (ws : List ℕ) (v : code.Verdict) (ws′ : List ℕ) : Type 0 where
-  pub answers : verdict-said v ≡ (refuse malformed-state when unfit ws else pass)
-  pub words : ws′ ≡ cond (unfit ws) ws (put ws (stored (stream-of ws) (clear (state-of ws))))

@@ -1,5 +1,5 @@
 -- `tp_lent::clear` meets its contract. Assumes nothing.
-use mathlib.Core.Path.{_≡_, sym, _∙_}
+use mathlib.Core.Path.{sym, _∙_}
 use Rattle.tp_words.proofs.PutLaws.{fit}
 use Rattle.tp_lent.proofs.CallLaws.{cleared-not, cleared-in-place}
 use borrow.Author.Needs.{needs}

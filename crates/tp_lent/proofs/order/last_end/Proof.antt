@@ -1,5 +1,5 @@
 -- `tp_lent::order::last_end` meets its contract. Assumes nothing.
-use mathlib.Core.Path.{_≡_, ap, _∙_}
+use mathlib.Core.Path.{ap}
 use borrow.Author.Tests.{eq-eqb, ne-eqb}
 use Rattle.tp_machine.specs.declared.TpRange.{TpRange}
 use borrow.Author.Needs.{needs}

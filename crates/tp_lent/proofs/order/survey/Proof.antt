@@ -19,7 +19,6 @@ use Rattle.tp_words.proofs.WordLaws.{in-length}
 use Rattle.tp_lent.specs.Lent.{rising}
 use Rattle.tp_lent.proofs.PlaceLaws.{ranges-at}
 use Rattle.tp_lent.proofs.RisingLaws.{not-bad, rising-low, rising-bad, rising-next, rising-done, counted-next, counted-done}
-use borrow.Author.Needs.{needs}
 use Rattle.tp_lent.proofs.order.survey.Statement.{statement}
 use Rattle.tp_lent.proofs.order.survey.Tie as tie
 

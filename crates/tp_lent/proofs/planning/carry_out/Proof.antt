@@ -1,6 +1,6 @@
 -- `tp_lent::planning::carry_out` meets its contract. Assumes nothing.
 use Prim.Native.Nat.{ℕ, _+_, _-_, _≤_}
-use mathlib.Core.Path.{_≡_, ap, _∙_}
+use mathlib.Core.Path.{ap, _∙_}
 use mathlib.Core.List.{List}
 use native.Mathlib.Omega.{arith}
 use lib.ListN.{length, getD}
@@ -10,7 +10,6 @@ use Rattle.tp_machine.specs.declared.TpEnd.the-variants.{Known}
 use Rattle.tp_machine.specs.Machine.{most}
 use Rattle.tp_words.specs.Words.{size}
 use Rattle.tp_lent.specs.declared.planning.Plan.{Plan}
-use Rattle.tp_lent.specs.Lent.{Planned}
 use Rattle.tp_lent.proofs.ReadyLaws.{few}
 use Rattle.tp_lent.proofs.PlanLaws.{room, before-behind, behind-count, joined-few, carried}
 use borrow.Author.Needs.{needs}

@@ -1,5 +1,5 @@
 -- `tp_lent::planning::passes` meets its contract. Assumes nothing.
-use mathlib.Core.Path.{_≡_, sym, ap, _∙_}
+use mathlib.Core.Path.{sym, ap, _∙_}
 use mathlib.Core.Bool.{false≢true}
 use lib.ListN.{getD}
 use Rattle.refusal.specs.Said.{verdict-said}

@@ -1,7 +1,6 @@
 -- `tp_lent::ranges::grown_by` meets its contract. Assumes nothing.
-use Prim.Native.Nat.{ℕ, min, max}
-use mathlib.Core.Path.{_≡_, sym, ap, _∙_}
-use native.Mathlib.Omega.{arith}
+use Prim.Native.Nat.{min, max}
+use mathlib.Core.Path.{ap, _∙_}
 use borrow.Author.Tests.{eq-eqb, ne-eqb}
 use Rattle.tp_machine.specs.declared.TpRange.{TpRange}
 use borrow.Author.Needs.{needs}

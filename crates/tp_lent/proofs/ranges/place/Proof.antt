@@ -1,14 +1,14 @@
 -- `tp_lent::ranges::place` meets its contract: where the arms meet those behind stand behind the place of the joined range. Assumes nothing.
-use Prim.Native.Nat.{ℕ, _+_, _*_, _≤_, _<_}
-use mathlib.Core.Path.{_≡_, refl, sym, ap, _∙_}
+use Prim.Native.Nat.{ℕ, _+_, _*_}
+use mathlib.Core.Path.{_≡_, ap, _∙_}
 use mathlib.Core.List.{List}
 use mathlib.Core.Logic.{_⊎_, ⊎-elim}
 use native.Mathlib.Omega.{arith}
-use lib.ListN.{length, take, drop, length-set}
+use lib.ListN.{length, take, drop}
 use Rattle.tp_machine.specs.declared.TpRange.{TpRange}
 use Rattle.tp_machine.specs.Machine.{most}
 use Rattle.tp_machine.specs.Segments.{pasted}
-use Rattle.tp_words.specs.Words.{size, ranges-in, flat}
+use Rattle.tp_words.specs.Words.{ranges-in, flat}
 use Rattle.tp_lent.proofs.PlaceLaws.{moved, there, put-placed}
 use borrow.Author.Needs.{needs}
 use Rattle.tp_lent.proofs.ranges.place.Statement.{statement}

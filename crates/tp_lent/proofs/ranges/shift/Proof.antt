@@ -5,8 +5,8 @@ use mathlib.Core.List.{List}
 use native.Mathlib.Nat.{le-antisymm}
 use native.Mathlib.Numerals.{add-one}
 use native.Mathlib.Omega.{arith}
-use lib.ListN.{length, take, drop, set, getD, length-set, length-drop}
-use lib.Seq.{paste, paste-zero, paste-suc, getD-drop}
+use lib.ListN.{length, take, drop, set, getD, length-set}
+use lib.Seq.{paste, paste-zero, paste-suc}
 use Rattle.tp_lent.proofs.PlaceLaws.{part-more, paste-part}
 use borrow.Author.Needs.{needs}
 use Rattle.tp_lent.proofs.ranges.shift.Statement.{statement}
