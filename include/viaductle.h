@@ -3,7 +3,7 @@
  * stated in crates/hub/specs.
  *
  * Link libviaductle.a (x86-64, System V), which `tools/library` writes to target/staticlib, with viaductle.pc for pkg-config; libhub.a there is
- * the same archive. It calls memcpy and memset, as compiled code does, and nothing else: no heap, no threads, no global state. examples/c has
+ * the same archive. It calls memcpy, memmove and memset, as compiled code does, and nothing else: no heap, no threads, no global state. examples/c has
  * a program, and `examples/c/run` compiles and runs it.
  *
  * What a caller must see to, since C cannot say it:
@@ -306,7 +306,8 @@ viaductle_entry viaductle_next_entry(const uint8_t *entries, size_t len, size_t 
 
 /* The state of a stream is an array of VIADUCTLE_WORDS words that the caller keeps: the limit, how many ranges are held, whether an end is known
  * (0 or 1), the end, how many segments were accepted, and for each of VIADUCTLE_MAX_RANGES ranges its start, its end and its number, of which as
- * many count as ranges are held. It can be copied, stored and sent; any words get an answer. Words past these are never touched. */
+ * many count as ranges are held. These stand in the order of the report; in any other order they get the same answers, and a call takes longer.
+ * It can be copied, stored and sent; any words get an answer. Words past these are never touched. */
 #define VIADUCTLE_FRONT_WORDS 5
 #define VIADUCTLE_RANGE_WORDS 3
 #define VIADUCTLE_WORDS (VIADUCTLE_FRONT_WORDS + VIADUCTLE_RANGE_WORDS * VIADUCTLE_MAX_RANGES)
