@@ -8,3 +8,4 @@ pub mod TellingLaws
 pub mod Unique
 pub mod Follows
 pub mod Record
+pub mod Called
