@@ -7,6 +7,7 @@ ghost use Rattle.tp_machine.specs.Ranges.{touch, hull-of, inserted, some-touch,
 ghost use Rattle.tp_machine.specs.Machine.{most};
 ghost use Rattle.tp_range.specs.Joining.{placed, joined-in};
 ghost use Rattle.tp_range.specs.Inserting.{place};
+ghost use Rattle.tp_range.specs.Ordered.{ordered};
 use tp_machine::TpRange;
 
 // How many ranges are held at most.
@@ -135,17 +136,38 @@ pub fn join(ranges: [TpRange; MAX_RANGES], count: usize, new: TpRange) -> Joined
     }
 }
 
-// Whether two of the first `count` touch: each is tried with those behind it.
-pub fn some_touch(ranges: [TpRange; MAX_RANGES], count: usize) -> bool
+// Whether each of the first `count` begins behind the end of the one before it, and none ends before it begins: then no two touch.
+fn in_order(ranges: [TpRange; MAX_RANGES], count: usize) -> bool
+    requires { ⌜ count ≤ most ⌝ }
+    ensures { λ b. ⌜ b ≡ ordered 0 (take count ranges) ⌝ }
+{
+    let mut low: usize = 0;
+    let mut i: usize = 0;
+    while i < count {
+        let r = ranges[i];
+        i += 1;
+        if (r.start as usize) < low {
+            return false;
+        }
+        if r.end < r.start {
+            return false;
+        }
+        low = r.end as usize + 1;
+    }
+    true
+}
+
+// Whether two of the first `count` touch, in whatever order they stand: each is tried with those behind it.
+fn two_touch(ranges: [TpRange; MAX_RANGES], count: usize) -> bool
+    requires { ⌜ count ≤ most ⌝ }
     ensures { λ b. ⌜ b ≡ some-touch (take count ranges) ⌝ }
 {
-    let held = places(count);
     let mut i: usize = 0;
-    while i < held {
+    while i < count {
         let r = ranges[i];
         i += 1;
         let mut j = i;
-        while j < held {
+        while j < count {
             if touches(r, ranges[j]) {
                 return true;
             }
@@ -153,6 +175,17 @@ pub fn some_touch(ranges: [TpRange; MAX_RANGES], count: usize) -> bool
         }
     }
     false
+}
+
+// Whether two of the first `count` touch. Of ranges in order, as joining keeps them, one pass tells.
+pub fn some_touch(ranges: [TpRange; MAX_RANGES], count: usize) -> bool
+    ensures { λ b. ⌜ b ≡ some-touch (take count ranges) ⌝ }
+{
+    let held = places(count);
+    if in_order(ranges, held) {
+        return false;
+    }
+    two_touch(ranges, held)
 }
 
 // The greatest end of the first `count`; 0 of none.
