@@ -105,6 +105,40 @@ fn a_report_in_odd_even_order() {
     assert_eq!(stream.take().unwrap().payload(), report);
 }
 
+/// The ranges stand in the report's order in the words, and words in another order get the same answers.
+#[test]
+fn words_in_order_and_out_of_order() {
+    let mut buffer = [0; 16 + 160];
+    let mut stream = TpStream::new(160).unwrap();
+    for at in [96, 0, 48] {
+        stream
+            .consume_tp(&segment(at, true, &[at as u8; 16]), &mut buffer)
+            .unwrap();
+    }
+    let words = *stream.words();
+    assert_eq!([5, 8, 11].map(|at| words[at]), [0, 48, 96]);
+    let mut turned = words;
+    for (to, from) in [(5, 11), (11, 5)] {
+        turned[to..to + 3].copy_from_slice(&words[from..from + 3]);
+    }
+    let (mut other, mut bytes) = (TpStream::from_words(turned), buffer);
+    assert_eq!(held(&other), held(&stream));
+    for comes in [
+        segment(160, true, &[1; 16]),
+        segment(48, false, &[2; 16]),
+        segment(16, true, &[3; 32]),
+        segment(128, false, &[4; 32]),
+        segment(64, true, &[5; 64]),
+    ] {
+        let answer = stream.consume_tp(&comes, &mut buffer);
+        assert_eq!(other.consume_tp(&comes, &mut bytes), answer);
+        assert_eq!((held(&other), bytes), (held(&stream), buffer));
+        assert_eq!(other.is_complete(), stream.is_complete());
+    }
+    assert!(stream.is_complete());
+    assert_eq!(other.take(&mut bytes), stream.take(&mut buffer));
+}
+
 #[test]
 fn a_refusal_changes_nothing() {
     let mut buffer = [0xee; 48];
