@@ -269,7 +269,7 @@ fn the_constants_are_the_same() {
         ("DISCARD", "DISCARD", "hub", "DISCARD"),
         ("STRICT", "STRICT", "hub", "STRICT"),
         ("MAX_SD_OPTIONS", "SLOTS", "sd_index", "SLOTS"),
-        ("MAX_LIMIT", "MAX_LIMIT", "tp_stream", "MAX_LIMIT"),
+        ("MAX_LIMIT", "MAX_LIMIT", "tp_rules", "MAX_LIMIT"),
         ("MAX_RANGES", "MAX_RANGES", "tp_range", "MAX_RANGES"),
         ("LAST_NUMBER", "LAST_NUMBER", "tp_stream", "LAST_NUMBER"),
         ("FRONT_WORDS", "FRONT_WORDS", "tp_words", "FRONT_WORDS"),

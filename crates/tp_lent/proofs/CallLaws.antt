@@ -22,13 +22,13 @@ use Rattle.tp_machine.specs.Machine.{most, Out, step, clear}
 use Rattle.tp_machine.specs.Taking.{complete, ready}
 use Rattle.tp_machine.proofs.Steps.{every-step}
 use Rattle.tp_range.specs.Joining.{none}
+use Rattle.tp_rules.specs.Taking.{one-whole, one-ready}
+use Rattle.tp_rules.proofs.TakingLaws.{complete-one, ready-one}
 use Rattle.tp_stream.specs.declared.TpStream.{TpStream}
 use Rattle.tp_stream.specs.declared.TpStep.{TpStep}
 use Rattle.tp_stream.specs.Stream.{view, stored}
-use Rattle.tp_stream.specs.Taking.{one-whole, one-ready}
 use Rattle.tp_stream.specs.Promises.{seen, Ran}
 use Rattle.tp_stream.proofs.StreamLaws.{cleared}
-use Rattle.tp_stream.proofs.TakingLaws.{complete-one, ready-one}
 use Rattle.tp_words.specs.Words.{size, range-at, ranges-in, end-of, unfit, held-in, stream-of, state-of, flat, words-of, put}
 use Rattle.tp_words.proofs.WordLaws.{in-length}
 use Rattle.tp_words.proofs.PutLaws.{fit, told, put-all}

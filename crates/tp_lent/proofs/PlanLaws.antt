@@ -24,13 +24,12 @@ use Rattle.tp_machine.proofs.InOrder.{joined-split, counted-less, counted-most,
 use Rattle.tp_range.specs.Joining.{none, placed}
 use Rattle.tp_segment.specs.declared.TpHeader.{TpHeader}
 use Rattle.tp_segment.specs.Reading.{header-of}
+use Rattle.tp_rules.specs.Judging.{header-judged, Passed}
+use Rattle.tp_rules.specs.Writing.{written-at}
+use Rattle.tp_rules.proofs.JudgingLaws.{header-passed}
+use Rattle.tp_rules.proofs.WritingLaws.{written-fits}
 use Rattle.tp_stream.specs.declared.TpStream.{TpStream}
 use Rattle.tp_stream.specs.Stream.{stored}
-use Rattle.tp_stream.specs.Judging.{header-judged}
-use Rattle.tp_stream.specs.Writing.{written-at}
-use Rattle.tp_stream.specs.Promises.{Passed}
-use Rattle.tp_stream.proofs.JudgingLaws.{header-passed}
-use Rattle.tp_stream.proofs.WritingLaws.{written-fits}
 use Rattle.tp_words.specs.Words.{size, range-at, ranges-in, end-of, held-in, state-of, flat, known, words-of, put}
 use Rattle.tp_words.proofs.WordLaws.{in-length}
 use Rattle.tp_words.proofs.PutLaws.{told, put-all}

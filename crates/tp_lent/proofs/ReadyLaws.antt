@@ -16,11 +16,12 @@ use Rattle.tp_machine.specs.Machine.{most, highest, State, bad-range, end-past,
 use Rattle.tp_machine.specs.Meaning.{Good}
 use Rattle.tp_machine.proofs.Tests as tests
 use Rattle.tp_range.specs.Joining.{none}
+use Rattle.tp_rules.specs.Malformed.{Reach}
+use Rattle.tp_rules.proofs.MalformedLaws.{reach-limit, reach-end}
 use Rattle.tp_stream.specs.declared.TpStream.{TpStream}
 use Rattle.tp_stream.specs.Stream.{held as all-held, view}
-use Rattle.tp_stream.specs.Promises.{Reach}
 use Rattle.tp_stream.proofs.StreamLaws.{held-take}
-use Rattle.tp_stream.proofs.MalformedLaws.{reach-limit, reach-end, two-touch}
+use Rattle.tp_stream.proofs.MalformedLaws.{two-touch}
 use Rattle.tp_words.specs.Words.{size, ranges-in, end-of, unfit, held-in, stream-of, state-of}
 use Rattle.tp_words.proofs.WordLaws.{in-length}
 use Rattle.tp_words.proofs.PutLaws.{fit, told}

@@ -18,9 +18,9 @@ use Rattle.tp_machine.specs.Machine.{most, highest, last-number, State, bad-ran
 use Rattle.tp_machine.specs.Meaning.{range-of, InOrder, Good}
 use Rattle.tp_machine.specs.Runs.{Reached}
 use Rattle.tp_segment.specs.Reading.{header-of}
+use Rattle.tp_rules.specs.Judging.{Passed}
 use Rattle.tp_stream.specs.declared.TpStream.{TpStream}
 use Rattle.tp_stream.specs.Stream.{stored}
-use Rattle.tp_stream.specs.Promises.{Passed}
 use Rattle.tp_words.specs.Words.{size, unfit, range-at, ranges-in, stream-of, state-of, flat, put}
 use Rattle.tp_lent.specs.declared.order.Found.{Found}
 use Rattle.tp_lent.specs.declared.planning.Plan.{Plan}

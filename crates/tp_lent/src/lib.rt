@@ -1,6 +1,6 @@
 // A stream in words that the caller lends, judged and joined where they stand. A stream that was begun keeps its ranges in order, and one pass over
 // them judges the state; words that are out of order, or unfit, and segments that are refused take the way by value, `tp_stream` over `tp_words`:
-// the same answers, slower. Both ways ask the same rules, which are functions of `tp_stream`.
+// the same answers, slower. Both ways ask the same rules, the functions of `tp_rules`.
 ghost use mathlib.Core.Path.{_≡_};
 ghost use Rattle.tp_machine.specs.Taking.{complete as complete-of};
 ghost use Rattle.tp_stream.specs.Promises.{Took};
@@ -50,7 +50,7 @@ pub fn complete(words: &[u32]) -> bool
 {
     if order::in_order(words) {
         let end = tp_words::end_of(words[2], words[3]);
-        return tp_stream::whole(end, words[1] as usize, ranges::range_at(words, 0));
+        return tp_rules::whole(end, words[1] as usize, ranges::range_at(words, 0));
     }
     false
 }
@@ -61,7 +61,7 @@ pub fn take(words: &[u32], buf: &mut [u8]) -> Count
 {
     if order::in_order(words) {
         let known = tp_words::end_of(words[2], words[3]);
-        let answer = tp_stream::ready_of(
+        let answer = tp_rules::ready_of(
             known,
             words[1] as usize,
             ranges::range_at(words, 0),
@@ -70,7 +70,7 @@ pub fn take(words: &[u32], buf: &mut [u8]) -> Count
         let Count::Good(end) = answer else {
             return answer;
         };
-        tp_stream::put_length(buf, end);
+        tp_rules::put_length(buf, end);
         return answer;
     }
     tp_stream::take(stream_of(words), buf)

@@ -4,7 +4,7 @@ ghost use mathlib.Core.Bool.{cond};
 ghost use Prim.Native.Nat.{_≤_};
 ghost use lib.ListN.{length, take, getD};
 ghost use Rattle.tp_machine.specs.Machine.{most, highest, State};
-ghost use Rattle.tp_stream.specs.Promises.{Reach};
+ghost use Rattle.tp_rules.specs.Malformed.{Reach};
 ghost use Rattle.tp_words.specs.Words.{size, ranges-in};
 ghost use Rattle.tp_lent.specs.Lent.{unready as unready-of, top-of as top-in, last-end as last-in, in-order, Surveys};
 use crate::ranges::range_at;
@@ -44,7 +44,7 @@ pub(crate) fn survey(words: &[u32], count: usize, top: u32, start: u32, end: u32
                 behind,
             };
         }
-        if tp_stream::bad_range(top, accepted, r) {
+        if tp_rules::bad_range(top, accepted, r) {
             return Found {
                 fine: false,
                 before,
@@ -83,7 +83,7 @@ pub(crate) fn unready(words: &[u32]) -> bool
     if MAX_RANGES < words[1] as usize {
         return true;
     }
-    if tp_stream::MAX_LIMIT < words[0] {
+    if tp_rules::MAX_LIMIT < words[0] {
         return true;
     }
     words[0] < top_of(words)

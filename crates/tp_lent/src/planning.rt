@@ -7,7 +7,7 @@ ghost use Prim.Native.Nat.{_≤_};
 ghost use lib.ListN.{length, drop, getD};
 ghost use Rattle.numbers.specs.Answers.{pass};
 ghost use Rattle.tp_machine.specs.Machine.{most, previous};
-ghost use Rattle.tp_stream.specs.Judging.{header-judged};
+ghost use Rattle.tp_rules.specs.Judging.{header-judged};
 ghost use Rattle.tp_words.specs.Words.{size, end-of, known};
 ghost use Rattle.tp_lent.specs.Lent.{last-end, RoomLeft, Planned, CarriedOut};
 use crate::order::Found;
@@ -64,12 +64,12 @@ fn passes(words: &[u32], count: usize, header: TpHeader, room: usize) -> bool
     requires { ⌜ (count ≤ most) × (size ≤ length (now words)) ⌝ }
     ensures { λ r. ⌜ (r ≡ true → header-judged (getD (now (words .entry)) 0 0) (end-of (getD (now (words .entry)) 2 0) (getD (now (words .entry)) 3 0)) (cond (header .more) 0 (last-end (now (words .entry)) count)) header room ≡ pass) ⌝ }
 {
-    if tp_stream::AT_ONCE < header.size {
+    if tp_rules::AT_ONCE < header.size {
         return false;
     }
     let end = tp_words::end_of(words[2], words[3]);
     let least = least_end(words, count, header.more);
-    let Verdict::Passed = tp_stream::judge_header(words[0], end, least, header, room) else {
+    let Verdict::Passed = tp_rules::judge_header(words[0], end, least, header, room) else {
         return false;
     };
     true
@@ -128,7 +128,7 @@ pub(crate) fn put_front(words: &mut [u32], count: u32, end: TpEnd, accepted: u32
 {
     words[1] = count;
     words[2] = tp_words::known_of(end);
-    words[3] = tp_stream::previous_end(end);
+    words[3] = tp_rules::previous_end(end);
     words[4] = accepted;
 }
 
@@ -140,9 +140,9 @@ pub(crate) fn carry_out(words: &mut [u32], seg: &[u8], buf: &mut [u8], plan: Pla
     let new = plan.new;
     let count = words[1] as usize;
     let before = tp_words::end_of(words[2], words[3]);
-    let end = tp_stream::end_after(before, plan.more, new.end);
+    let end = tp_rules::end_after(before, plan.more, new.end);
     let grown = grown_by(words, plan.before, plan.behind, new);
-    tp_stream::write(buf, seg, new.start);
+    tp_rules::write(buf, seg, new.start);
     place(words, count, plan.before, plan.behind, grown);
     put_front(
         words,

@@ -1,7 +1,6 @@
 pub mod StreamLaws
 pub mod MalformedLaws
 pub mod JudgingLaws
-pub mod WritingLaws
 pub mod StepLaws
 pub mod TakingLaws
 pub mod TellingLaws

@@ -29,9 +29,10 @@ use Rattle.tp_segment.specs.declared.TpHeader.{TpHeader}
 use Rattle.tp_segment.specs.declared.SegmentAnswer.{SegmentAnswer}
 use Rattle.tp_segment.specs.declared.SegmentAnswer.the-variants as segment
 use Rattle.tp_segment.specs.Reading.{segment-refusal}
+use Rattle.tp_rules.specs.Judging.{Passed}
 use Rattle.tp_stream.specs.declared.TpStream.{TpStream}
 use Rattle.tp_stream.specs.Stream.{view, stored}
-use Rattle.tp_stream.specs.Promises.{Ran, Passed, Judges}
+use Rattle.tp_stream.specs.Promises.{Ran, Judges}
 use Rattle.tp_stream.proofs.StreamLaws.{held-take, held-length, stored-view, view-stored}
 
 module _ (s : TpStream) (seg buf : List ℕ) where

@@ -1,15 +1,12 @@
 -- Any two outcomes that one promise of this crate allows are equal; of a promise that is one equation that is transitivity. Assumes nothing.
 use Prim.Native.Nat.{ℕ}
-use mathlib.Core.Path.{_≡_, refl, sym, ap, _∙_}
-use mathlib.Core.Bool.{Bool}
-use mathlib.Core.List.{List, []}
+use mathlib.Core.Path.{_≡_, sym, ap, _∙_}
+use mathlib.Core.List.{List}
 use Rattle.refusal.specs.declared.answers.Count.{Count}
 use Rattle.numbers.proofs.AnswerLaws.{accepted-inj, not-refused}
 use Rattle.refusal.specs.Said.{said, count-said}
 use Rattle.refusal.proofs.OneToOne.{same-refusal, verdict-one-to-one, count-one-to-one}
-use Rattle.tp_machine.specs.declared.TpRange.{TpRange}
-use Rattle.tp_machine.specs.declared.TpEnd.the-variants.{Unknown}
-use Rattle.tp_machine.specs.Machine.{State, bad-range, Out}
+use Rattle.tp_machine.specs.Machine.{Out}
 use Rattle.tp_machine.specs.Telling.{range-told, count-told}
 use Rattle.tp_stream.specs.declared.TpStream.{TpStream}
 use Rattle.tp_stream.specs.declared.TpStep.{TpStep}
@@ -17,8 +14,7 @@ use Rattle.tp_stream.specs.declared.telling.RangeAnswer.{RangeAnswer}
 use Rattle.tp_stream.specs.declared.telling.RangeAnswer.the-variants.{Good, Refused}
 use Rattle.tp_stream.specs.Stream.{view, stored}
 use Rattle.tp_stream.specs.Telling.{range-said}
-use Rattle.tp_stream.specs.Promises.{Began, Ran, Took, Reach}
-use Rattle.tp_stream.proofs.MalformedLaws.{reach-limit}
+use Rattle.tp_stream.specs.Promises.{Began, Ran, Took}
 
 pub begin-unique : (limit : ℕ) (r q : TpStep) → Began limit r → Began limit q → r ≡ q
 begin-unique limit r q a b = λ i. record { answer = verdict-one-to-one (r .answer) (q .answer) (a .answers ∙ sym (b .answers)) i; stream = (a .begins ∙ sym (b .begins)) i }
@@ -46,12 +42,3 @@ range-from-unique s x r q a b = range-one-to-one r q (a ∙ sym b)
 
 pub accepted-unique : (s : TpStream) (r q : Count) → count-said r ≡ count-told (view s) → count-said q ≡ count-told (view s) → r ≡ q
 accepted-unique s r q a b = count-one-to-one r q (a ∙ sym b)
-
--- a range is judged one way: there is a state that reaches just so far
-pub bad-range-unique : (top accepted : ℕ) (r : TpRange) (b c : Bool)
-    → ((p : State) → Reach p top → p .count ≡ accepted → b ≡ bad-range p r)
-    → ((p : State) → Reach p top → p .count ≡ accepted → c ≡ bad-range p r) → b ≡ c
-bad-range-unique top accepted r b c f g =
-    let p : State = record { limit = top; ranges = []; end = Unknown; count = accepted } in
-    let far = reach-limit p top refl refl in
-    f p far refl ∙ sym (g p far refl)

@@ -1,22 +1,15 @@
 -- What is promised of a stream's calls. Assumes nothing: these are definitions.
-use Prim.Native.Nat.{ℕ, _+_, _≤_}
+use Prim.Native.Nat.{ℕ}
 use mathlib.Core.Path.{_≡_}
-use mathlib.Core.Bool.{_||_}
 use mathlib.Core.List.{List}
-use lib.ListN.{length}
-use lib.Dec.{ltb}
-use Rattle.numbers.specs.Refusals.{ranges-full, count-full}
-use Rattle.numbers.specs.Answers.{refused, pass, refuse_when_else_}
+use Rattle.numbers.specs.Answers.{refused}
 use Rattle.refusal.specs.declared.answers.Count.{Count}
 use Rattle.refusal.specs.Said.{said, verdict-said, count-said}
-use Rattle.tp_machine.specs.Segments.{end-of}
-use Rattle.tp_machine.specs.Machine.{highest, State, end-before, Out, judged, too-many, counted-out, step, begun, begin}
+use Rattle.tp_machine.specs.Machine.{State, Out, judged, step, begun, begin}
 use Rattle.tp_machine.specs.Taking.{taking}
-use Rattle.tp_machine.specs.Meaning.{Good}
-use Rattle.tp_segment.specs.declared.TpHeader.{TpHeader}
 use Rattle.tp_segment.specs.declared.SegmentAnswer.{SegmentAnswer}
 use Rattle.tp_segment.specs.declared.SegmentAnswer.the-variants as segment
-use Rattle.tp_segment.specs.Reading.{header-of}
+use Rattle.tp_rules.specs.Judging.{Passed}
 use Rattle.tp_stream.specs.declared.TpStream.{TpStream}
 use Rattle.tp_stream.specs.declared.TpStep.{TpStep}
 use Rattle.tp_stream.specs.Stream.{view, stored, blank}
@@ -42,20 +35,7 @@ pub record Took (s : TpStream) (buf : List ℕ) (r : Count) (after : List ℕ) :
 
 -- ---- between the parts of the code
 
--- how far the ranges of a state may reach: an end is past it exactly where it is past the limit or past the known end
-abbrev pub Reach : State → ℕ → Type 0
-Reach p top = (x : ℕ) → ltb top x ≡ (ltb (p .limit) x || end-before (p .end) x)
-
--- a segment that passed all tests but those after joining
-pub record Passed (p : State) (seg : List ℕ) (room : ℕ) (h : TpHeader) : Type 0 where
-  pub good : Good p
-  pub header : h ≡ header-of seg
-  pub long : 20 ≤ length seg
-  pub low : end-of seg ≤ highest
-  pub fits : 16 + end-of seg ≤ room
-  pub rest : judged p seg room ≡ (refuse ranges-full when too-many p seg else refuse count-full when counted-out p else pass)
-
--- judging: that, or the machine's refusal
+-- judging: a segment that passed all tests but those after joining, or the machine's refusal
 abbrev pub Judges : State → List ℕ → ℕ → SegmentAnswer → Type 0
 Judges p seg room (segment.Good h) = Passed p seg room h
 Judges p seg room (segment.Refused r) = judged p seg room ≡ refused (said r)

@@ -1,13 +1,12 @@
-// One stream of TP segments, joined in a lent buffer. The stream's state is a value, handed in and handed back. (tp_buf.rs)
+// One stream of TP segments, joined in a lent buffer. The stream's state is a value, handed in and handed back; the rules are `tp_rules`'. (tp_buf.rs)
 ghost use mathlib.Core.Path.{_≡_};
-ghost use mathlib.Core.Bool.{cond};
 ghost use lib.ListN.{length};
 ghost use Prim.Native.Nat.{_+_, min};
-ghost use Rattle.tp_machine.specs.declared.TpEnd.the-variants.{Known};
 ghost use Rattle.tp_machine.specs.Machine.{last-number, fresh as fresh-of, clear as clear-of};
 ghost use Rattle.tp_machine.specs.Taking.{complete as complete-of, ready as ready-of, report as report-of};
+ghost use Rattle.tp_rules.specs.Judging.{Passed};
 ghost use Rattle.tp_stream.specs.Stream.{view, stored, blank};
-ghost use Rattle.tp_stream.specs.Promises.{Passed, Began, Ran, Took};
+ghost use Rattle.tp_stream.specs.Promises.{Began, Ran, Took};
 use refusal::Count;
 use refusal::Refusal;
 use refusal::Verdict;
@@ -21,24 +20,12 @@ use tp_segment::TpHeader;
 
 mod malformed; // malformed.rt: answer 38
 mod judging; // judging.rt: answer 36, and answers 38 and 30 to 34 of a segment
-mod writing; // writing.rt: what is written into the buffer
 mod taking; // taking.rt: answers 38, 37 and 34 of taking
 mod telling; // telling.rt: the count and the ranges with their numbers, answers 38 and 20
 
-pub use judging::judge_header;
-pub use judging::previous_end;
-pub use malformed::bad_range;
-pub use taking::ready_of;
-pub use taking::whole;
 pub use telling::RangeAnswer;
 pub use telling::accepted;
 pub use telling::range_from;
-pub use writing::AT_ONCE;
-pub use writing::put_length;
-pub use writing::write;
-
-// The highest payload limit.
-pub const MAX_LIMIT: u32 = 65520;
 
 // The last number that a segment can have.
 pub const LAST_NUMBER: u32 = 4294967295;
@@ -138,10 +125,10 @@ fn accept(s: TpStream, seg: &[u8], buf: &mut [u8], header: TpHeader) -> TpStep
             stream: s,
         };
     }
-    writing::write(buf, seg, header.offset);
+    tp_rules::write(buf, seg, header.offset);
     let ranges = joined.ranges;
     let before = s.end;
-    let end = end_after(before, header.more, new.end);
+    let end = tp_rules::end_after(before, header.more, new.end);
     TpStep {
         answer: Verdict::Passed,
         stream: TpStream {
@@ -154,16 +141,6 @@ fn accept(s: TpStream, seg: &[u8], buf: &mut [u8], header: TpHeader) -> TpStep
     }
 }
 
-// The end that is known after a segment that ends at x: a final one sets it.
-pub fn end_after(end: TpEnd, more: bool, x: u32) -> TpEnd
-    ensures { λ r. ⌜ r ≡ cond more end (Known x) ⌝ }
-{
-    if more {
-        return end;
-    }
-    TpEnd::Known(x)
-}
-
 // Whether a stream is complete.
 pub fn complete(s: TpStream) -> bool
     ensures { λ r. ⌜ r ≡ complete-of (view s) ⌝ }
@@ -174,7 +151,7 @@ pub fn complete(s: TpStream) -> bool
     let end = s.end;
     let ranges = s.ranges;
     let first = ranges[0];
-    taking::whole(end, s.count, first)
+    tp_rules::whole(end, s.count, first)
 }
 
 // Taking the report: answers 38, 37 and 34, or the length field is written and where the payload ends is told.
@@ -185,7 +162,7 @@ pub fn take(s: TpStream, buf: &mut [u8]) -> Count
     let Count::Good(end) = answer else {
         return answer;
     };
-    writing::put_length(buf, end);
+    tp_rules::put_length(buf, end);
     answer
 }
 

@@ -4,9 +4,9 @@ ghost use mathlib.Core.Bool.{false};
 ghost use Prim.Native.Nat.{_≤_};
 ghost use lib.ListN.{take};
 ghost use Rattle.tp_machine.specs.Ranges.{any};
-ghost use Rattle.tp_machine.specs.Machine.{most, State, never-given, bad-range, end-past, bad-state};
+ghost use Rattle.tp_machine.specs.Machine.{most, State, bad-range, end-past, bad-state};
+ghost use Rattle.tp_rules.specs.Malformed.{Reach};
 ghost use Rattle.tp_stream.specs.Stream.{view};
-ghost use Rattle.tp_stream.specs.Promises.{Reach};
 use crate::TpStream;
 use tp_machine::TpEnd;
 use tp_machine::TpRange;
@@ -33,26 +33,6 @@ fn reach(limit: u32, end: TpEnd) -> u32
     }
 }
 
-// Whether no accepted segment has had that number.
-fn never_given(accepted: u32, number: u32) -> bool
-    ensures { λ b. ⌜ b ≡ never-given accepted number ⌝ }
-{
-    number == 0 || accepted < number
-}
-
-// Whether a range is bad in a state whose ranges may reach to `top`, after so many accepted segments.
-pub fn bad_range(top: u32, accepted: u32, r: TpRange) -> bool
-    ensures { λ b. ⌜ ((p : State) → Reach p top → p .count ≡ accepted → b ≡ bad-range p r) ⌝ }
-{
-    if r.end < r.start {
-        return true;
-    }
-    if top < r.end {
-        return true;
-    }
-    never_given(accepted, r.number)
-}
-
 // Whether one of the ranges is bad.
 fn any_bad(top: u32, accepted: u32, ranges: [TpRange; MAX_RANGES], count: usize) -> bool
     requires { ⌜ count ≤ most ⌝ }
@@ -62,7 +42,7 @@ fn any_bad(top: u32, accepted: u32, ranges: [TpRange; MAX_RANGES], count: usize)
     while i < count {
         let r = ranges[i];
         i += 1;
-        if bad_range(top, accepted, r) {
+        if tp_rules::bad_range(top, accepted, r) {
             return true;
         }
     }
@@ -76,7 +56,7 @@ pub(crate) fn malformed(s: TpStream) -> bool
     if MAX_RANGES < s.count {
         return true;
     }
-    if crate::MAX_LIMIT < s.limit {
+    if tp_rules::MAX_LIMIT < s.limit {
         return true;
     }
     let end = s.end;

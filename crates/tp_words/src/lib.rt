@@ -142,7 +142,7 @@ pub fn put(words: &mut [u32], stream: TpStream)
         stream.limit,
         stream.count as u32,
         known_of(end),
-        tp_stream::previous_end(end),
+        tp_rules::previous_end(end),
         stream.accepted,
     );
     let ranges = stream.ranges;

@@ -9,9 +9,9 @@ use Rattle.numbers.specs.Answers.{accepted}
 use Rattle.refusal.specs.Said.{count-said}
 use Rattle.tp_machine.specs.Taking.{ready}
 use Rattle.tp_machine.proofs.Steps.{ready-tells}
+use Rattle.tp_rules.proofs.WritingLaws.{length-fits}
 use Rattle.tp_stream.specs.declared.TpStream.{TpStream}
 use Rattle.tp_stream.specs.Promises.{Took}
-use Rattle.tp_stream.proofs.WritingLaws.{length-fits}
 use Rattle.tp_stream.proofs.TakingLaws.{took-end, took-nothing}
 use Rattle.tp_words.specs.Words.{size, stream-of, state-of}
 use Rattle.tp_lent.specs.Lent.{in-order}

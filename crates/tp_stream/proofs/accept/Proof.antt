@@ -5,8 +5,8 @@ use native.Mathlib.Omega.{arith}
 use lib.ListN.{length}
 use Rattle.tp_machine.specs.Machine.{most, highest, last-number}
 use Rattle.tp_segment.specs.declared.TpHeader.{TpHeader}
-use Rattle.tp_stream.specs.Writing.{written-at}
-use Rattle.tp_stream.proofs.WritingLaws.{written-fits}
+use Rattle.tp_rules.specs.Writing.{written-at}
+use Rattle.tp_rules.proofs.WritingLaws.{written-fits}
 use Rattle.tp_stream.proofs.StreamLaws.{length-of-map}
 use Rattle.tp_stream.proofs.StepLaws.{ran-full, ran-counted-out, ran-taken}
 use borrow.Author.Needs.{needs}

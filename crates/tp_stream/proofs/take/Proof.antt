@@ -5,9 +5,9 @@ use lib.ListN.{length}
 use Rattle.numbers.specs.Answers.{accepted}
 use Rattle.tp_machine.specs.Taking.{ready}
 use Rattle.refusal.specs.Said.{count-said}
+use Rattle.tp_rules.proofs.WritingLaws.{length-fits}
 use Rattle.tp_stream.specs.Stream.{view}
 use Rattle.tp_machine.proofs.Steps.{ready-tells}
-use Rattle.tp_stream.proofs.WritingLaws.{length-fits}
 use Rattle.tp_stream.proofs.TakingLaws.{took-end, took-nothing}
 use borrow.Author.Needs.{needs}
 use Rattle.tp_stream.proofs.take.Statement.{statement}

@@ -4,7 +4,7 @@ use mathlib.Core.Path.{_≡_, sym, subst, _∙_}
 use mathlib.Core.Bool.{false}
 use mathlib.Core.List.{List}
 use native.Mathlib.Omega.{arith}
-use Rattle.tp_stream.specs.Promises.{Reach}
+use Rattle.tp_rules.specs.Malformed.{Reach}
 use Rattle.tp_words.specs.Words.{state-of}
 use Rattle.tp_lent.specs.Lent.{unready}
 use Rattle.tp_lent.proofs.ReadyLaws.{enough, few, top-low, reach, count-is}

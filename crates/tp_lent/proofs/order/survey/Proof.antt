@@ -11,8 +11,8 @@ use Rattle.tp_machine.specs.declared.TpEnd.the-variants.{Unknown}
 use Rattle.tp_machine.specs.Lists.{counted}
 use Rattle.tp_machine.specs.Ranges.{ends-before, begins-by}
 use Rattle.tp_machine.specs.Machine.{most, State, bad-range}
-use Rattle.tp_stream.specs.Promises.{Reach}
-use Rattle.tp_stream.proofs.MalformedLaws.{reach-limit}
+use Rattle.tp_rules.specs.Malformed.{Reach}
+use Rattle.tp_rules.proofs.MalformedLaws.{reach-limit}
 use Rattle.tp_range.specs.Joining.{none}
 use Rattle.tp_words.specs.Words.{ranges-in}
 use Rattle.tp_words.proofs.WordLaws.{in-length}

@@ -3,7 +3,7 @@ use mathlib.Core.Path.{sym, ap, _∙_}
 use mathlib.Core.Bool.{false≢true}
 use lib.ListN.{getD}
 use Rattle.refusal.specs.Said.{verdict-said}
-use Rattle.tp_stream.specs.Judging.{header-judged}
+use Rattle.tp_rules.specs.Judging.{header-judged}
 use borrow.Author.Needs.{needs}
 use Rattle.tp_lent.proofs.planning.passes.Statement.{statement}
 use Rattle.tp_lent.proofs.planning.passes.Tie as tie

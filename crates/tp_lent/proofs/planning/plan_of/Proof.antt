@@ -13,8 +13,8 @@ use Rattle.tp_machine.specs.Meaning.{range}
 use Rattle.tp_segment.specs.declared.TpHeader.{TpHeader}
 use Rattle.tp_segment.specs.Reading.{header-of, segment-said}
 use Rattle.tp_segment.proofs.Laws.{reading-good}
-use Rattle.tp_stream.specs.Judging.{header-judged}
-use Rattle.tp_stream.specs.Promises.{Reach}
+use Rattle.tp_rules.specs.Judging.{header-judged}
+use Rattle.tp_rules.specs.Malformed.{Reach}
 use Rattle.tp_words.specs.Words.{size, end-of, state-of}
 use Rattle.tp_lent.specs.Lent.{held, unready, last-end, rising, Surveys}
 use Rattle.tp_lent.proofs.ReadyLaws.{enough, few, low, top-low, reach, count-is}

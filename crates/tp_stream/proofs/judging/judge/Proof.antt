@@ -15,12 +15,12 @@ use Rattle.tp_segment.specs.declared.TpHeader.{TpHeader}
 use Rattle.tp_segment.specs.Reading.{header-of, segment-said}
 use Rattle.tp_segment.proofs.Laws.{reading-good}
 use Rattle.tp_machine.proofs.Tests.{good-means}
+use Rattle.tp_rules.specs.Judging.{header-judged, Passed}
+use Rattle.tp_rules.proofs.JudgingLaws.{by-header, header-passed, header-refused}
 use Rattle.tp_stream.specs.declared.TpStream.{TpStream}
 use Rattle.tp_stream.specs.Stream.{view}
-use Rattle.tp_stream.specs.Judging.{header-judged}
-use Rattle.tp_stream.specs.Promises.{Passed}
 use Rattle.tp_stream.proofs.StreamLaws.{length-of-map}
-use Rattle.tp_stream.proofs.JudgingLaws.{least-held, judged-malformed, judged-unread, by-header, header-passed, header-refused}
+use Rattle.tp_stream.proofs.JudgingLaws.{least-held, judged-malformed, judged-unread}
 use borrow.Author.Needs.{needs}
 use Rattle.tp_stream.proofs.judging.judge.Statement.{statement}
 use Rattle.tp_stream.proofs.judging.judge.Tie as tie

@@ -6,7 +6,7 @@ use lib.ListN.{length, take, drop}
 use Rattle.tp_range.specs.Joining.{none}
 use Rattle.tp_machine.specs.Ranges.{any}
 use Rattle.tp_machine.specs.Machine.{most, State, bad-range}
-use Rattle.tp_stream.specs.Promises.{Reach}
+use Rattle.tp_rules.specs.Malformed.{Reach}
 use Rattle.tp_range.proofs.Laws.{any-hit, any-miss, any-end}
 use borrow.Author.Needs.{needs}
 use Rattle.tp_stream.proofs.malformed.any_bad.Statement.{statement}

@@ -1,6 +1,6 @@
 -- `tp_stream::malformed::reach` meets its contract: an end that is known is not past the limit, so it alone counts. Assumes nothing.
 use mathlib.Core.Path.{_∙_}
-use Rattle.tp_stream.proofs.MalformedLaws.{reach-limit, reach-end}
+use Rattle.tp_rules.proofs.MalformedLaws.{reach-limit, reach-end}
 use borrow.Author.Needs.{needs}
 use Rattle.tp_stream.proofs.malformed.reach.Statement.{statement}
 use Rattle.tp_stream.proofs.malformed.reach.Tie as tie

@@ -1,0 +1,5 @@
+pub mod Judging
+pub mod Malformed
+pub mod Writing
+pub mod Taking
+pub mod OfTheMachine
