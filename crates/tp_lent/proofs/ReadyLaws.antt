@@ -96,9 +96,6 @@ module _ (ws : List ℕ) (ready : unready ws ≡ false) where
   reaches : top-of ws ≤ limit
   reaches = ltb-false limit (top-of ws) (last-tests .1)
 
-  pub top-low : top-of ws ≤ highest
-  top-low = omega (arith, low, reaches)
-
   pub limit-is : p .limit ≡ limit
   limit-is = state-limit ws fits
 

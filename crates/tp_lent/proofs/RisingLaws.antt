@@ -6,7 +6,7 @@ use mathlib.Core.List.{List, [], _∷_}
 use mathlib.Core.Logic.{inl}
 use native.Mathlib.Nat.{le-refl}
 use native.Mathlib.Omega.{arith}
-use borrow.Author.Tests.{lt-ltb, le-ltb, ltb-false}
+use borrow.Author.Tests.{lt-ltb, le-ltb, ltb-true, ltb-false}
 use lib.Dec.{ltb, eqb}
 use lib.ListN.{length, take, drop, getD}
 use Rattle.numbers.specs.Answers.{All}
@@ -15,12 +15,15 @@ use Rattle.numbers.proofs.TestLaws.{or-inv, and-inv}
 use Rattle.tp_machine.specs.declared.TpRange.{TpRange}
 use Rattle.tp_machine.specs.Lists.{Pairwise, counted}
 use Rattle.tp_machine.specs.Ranges.{any, some-touch, greatest-end}
-use Rattle.tp_machine.specs.Machine.{State, end-before, bad-range}
+use Rattle.tp_machine.specs.declared.TpEnd.the-variants.{Unknown}
+use Rattle.tp_machine.specs.Machine.{State, end-before, never-given, bad-range}
 use Rattle.tp_machine.specs.Meaning.{Apart, Before, InOrder}
 use Rattle.tp_machine.proofs.Lists.{all-any}
 use Rattle.tp_machine.proofs.Joining.{all-apart}
 use Rattle.tp_range.specs.Joining.{none}
 use Rattle.tp_range.proofs.Laws.{front, past-end}
+use Rattle.tp_rules.specs.Malformed.{Reach}
+use Rattle.tp_rules.proofs.MalformedLaws.{reach-limit, bad-early, bad-late, bad-number}
 use Rattle.tp_lent.specs.Lent.{rising}
 
 -- ---- what a range has that is not bad
@@ -32,6 +35,42 @@ not-bad p r e =
     let d = or-inv (end-before (p .end) (r .end)) _ (b .1) in
     let f = or-inv (eqb (r .number) 0) (ltb (p .count) (r .number)) (d .1) in
     (ltb-false (r .end) (r .start) (a .0), ltb-false (p .limit) (r .end) (b .0), ltb-false (p .count) (r .number) (f .1))
+
+-- ---- a range that may reach as far as it does: it is bad in any state if it is, and not where that state's ranges may reach so far
+abbrev free : (r : TpRange) (accepted : ℕ) → State
+free r accepted = record { limit = r .end; ranges = []; end = Unknown; count = accepted }
+
+module _ (r : TpRange) (accepted : ℕ) (b : Bool) (told : (q : State) → Reach q (r .end) → q .count ≡ accepted → b ≡ bad-range q r) where
+  alone : b ≡ bad-range (free r accepted) r
+  alone = told (free r accepted) (reach-limit (free r accepted) (r .end) refl refl) refl
+
+  given : r .start ≤ r .end → never-given accepted (r .number) ≡ b
+  given forth =
+      bad-number (free r accepted) r (r .end) accepted (reach-limit (free r accepted) (r .end) refl refl) refl forth (le-refl (r .end)) (never-given accepted (r .number)) refl
+      ∙ sym alone
+
+  pub free-forth : b ≡ false → r .start ≤ r .end
+  free-forth e = not-bad (free r accepted) r (sym alone ∙ e) .0
+
+  module _ (p : State) (top : ℕ) (reach : Reach p top) (counts : p .count ≡ accepted) where
+    pub bad-anyway : b ≡ true → bad-range p r ≡ true
+    bad-anyway e = early (ltb (r .end) (r .start)) refl
+      where
+        late : r .start ≤ r .end → (t : Bool) → ltb top (r .end) ≡ t → bad-range p r ≡ true
+        late forth true l = sym (bad-late p r top accepted reach counts forth (ltb-true top (r .end) l))
+        late forth false l = sym (bad-number p r top accepted reach counts forth (ltb-false top (r .end) l) (never-given accepted (r .number)) refl) ∙ given forth ∙ e
+
+        early : (t : Bool) → ltb (r .end) (r .start) ≡ t → bad-range p r ≡ true
+        early true s = sym (bad-early p r (ltb-true (r .end) (r .start) s))
+        early false s = late (ltb-false (r .end) (r .start) s) (ltb top (r .end)) refl
+
+    pub bad-past : b ≡ false → top < r .end → bad-range p r ≡ true
+    bad-past e l = sym (bad-late p r top accepted reach counts (free-forth e) l)
+
+    pub fine-within : b ≡ false → r .end ≤ top → bad-range p r ≡ false
+    fine-within e l =
+        let forth = free-forth e in
+        sym (bad-number p r top accepted reach counts forth l (never-given accepted (r .number)) refl) ∙ given forth ∙ e
 
 -- ---- one range more: what is left of the first n from i on, and the range r at i
 module _ (array : List TpRange) (i n : ℕ) (h : i < n) (k : n ≤ length array) (r : TpRange) (is : r ≡ getD array i none) where

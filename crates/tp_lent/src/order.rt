@@ -3,7 +3,7 @@ ghost use mathlib.Core.Path.{_≡_};
 ghost use mathlib.Core.Bool.{cond};
 ghost use Prim.Native.Nat.{_≤_};
 ghost use lib.ListN.{length, take, getD};
-ghost use Rattle.tp_machine.specs.Machine.{most, highest, State};
+ghost use Rattle.tp_machine.specs.Machine.{most, State};
 ghost use Rattle.tp_rules.specs.Malformed.{Reach};
 ghost use Rattle.tp_words.specs.Words.{size, ranges-in};
 ghost use Rattle.tp_lent.specs.Lent.{unready as unready-of, top-of as top-in, last-end as last-in, in-order, Surveys};
@@ -24,36 +24,43 @@ fn one_if(so: bool) -> usize
     if so { 1 } else { 0 }
 }
 
-// One pass over the first `count` ranges, which may reach to `top`.
+// One pass over the first `count` ranges, which may reach to `top`. In order the last one reaches furthest: it alone is asked how far.
 pub(crate) fn survey(words: &[u32], count: usize, top: u32, start: u32, end: u32) -> Found
-    requires { ⌜ (count ≤ most) × (top ≤ highest) × (size ≤ length (now words)) ⌝ }
+    requires { ⌜ (count ≤ most) × (size ≤ length (now words)) ⌝ }
     ensures { λ r. ⌜ ((p : State) → Reach p top → p .count ≡ getD (now (words .entry)) 4 0 → Surveys p (take count (ranges-in (now (words .entry)) most)) start end r) ⌝ }
 {
     let accepted = words[4];
-    let mut low: u32 = 0;
+    let mut low: usize = 0;
     let mut before: usize = 0;
     let mut behind: usize = 0;
     let mut i: usize = 0;
     while i < count {
         let r = range_at(words, i);
         i += 1;
-        if r.start < low {
+        if (r.start as usize) < low {
             return Found {
                 fine: false,
                 before,
                 behind,
             };
         }
-        if tp_rules::bad_range(top, accepted, r) {
+        if tp_rules::bad_range(r.end, accepted, r) {
             return Found {
                 fine: false,
                 before,
                 behind,
             };
         }
-        low = r.end + 1;
+        low = r.end as usize + 1;
         before += one_if(r.end < start);
         behind += one_if(r.start <= end);
+    }
+    if top as usize + 1 < low {
+        return Found {
+            fine: false,
+            before,
+            behind,
+        };
     }
     Found {
         fine: true,

@@ -7,7 +7,7 @@ use native.Mathlib.Omega.{arith}
 use Rattle.tp_rules.specs.Malformed.{Reach}
 use Rattle.tp_words.specs.Words.{state-of}
 use Rattle.tp_lent.specs.Lent.{unready}
-use Rattle.tp_lent.proofs.ReadyLaws.{enough, few, top-low, reach, count-is}
+use Rattle.tp_lent.proofs.ReadyLaws.{enough, few, reach, count-is}
 use borrow.Author.Needs.{needs}
 use Rattle.tp_lent.proofs.order.in_order.Statement.{statement}
 use Rattle.tp_lent.proofs.order.in_order.Tie as tie
@@ -34,7 +34,7 @@ top-of-requires c κs = enough (ws (c .before)) (ready (c .before))
 survey-requires : tie.Need-survey-requires
 survey-requires c κs =
     let e = c .before .before in
-    (few (ws e) (ready e), omega (arith, c .top-of .ensures, top-low (ws e) (ready e)), enough (ws e) (ready e))
+    (few (ws e) (ready e), enough (ws e) (ready e))
 
 returns-2 : tie.Need-returns-2
 returns-2 c =

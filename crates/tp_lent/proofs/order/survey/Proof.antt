@@ -3,22 +3,22 @@ use Prim.Native.Nat.{ℕ, _+_, _-_, _≤_, _<_}
 use mathlib.Core.Path.{_≡_, refl, sym, ap, _∙_}
 use mathlib.Core.Bool.{Bool, true, false, cond, false≢true}
 use lib.Dec.{ltb, leb}
-use mathlib.Core.List.{List, []}
+use mathlib.Core.List.{List}
 use native.Mathlib.Omega.{arith}
 use lib.ListN.{length, take, drop, getD}
 use Rattle.tp_machine.specs.declared.TpRange.{TpRange}
-use Rattle.tp_machine.specs.declared.TpEnd.the-variants.{Unknown}
 use Rattle.tp_machine.specs.Lists.{counted}
 use Rattle.tp_machine.specs.Ranges.{ends-before, begins-by}
-use Rattle.tp_machine.specs.Machine.{most, State, bad-range}
+use Rattle.tp_machine.specs.Machine.{most, State}
 use Rattle.tp_rules.specs.Malformed.{Reach}
-use Rattle.tp_rules.proofs.MalformedLaws.{reach-limit}
 use Rattle.tp_range.specs.Joining.{none}
 use Rattle.tp_words.specs.Words.{ranges-in}
 use Rattle.tp_words.proofs.WordLaws.{in-length}
 use Rattle.tp_lent.specs.Lent.{rising}
 use Rattle.tp_lent.proofs.PlaceLaws.{ranges-at}
-use Rattle.tp_lent.proofs.RisingLaws.{not-bad, rising-low, rising-bad, rising-next, rising-done, counted-next, counted-done}
+use borrow.Author.Needs.{needs}
+use borrow.Author.Tests.{ltb-true, ltb-false}
+use Rattle.tp_lent.proofs.RisingLaws.{free-forth, bad-anyway, bad-past, fine-within, rising-low, rising-bad, rising-next, rising-done, counted-next, counted-done}
 use Rattle.tp_lent.proofs.order.survey.Statement.{statement}
 use Rattle.tp_lent.proofs.order.survey.Tie as tie
 
@@ -26,7 +26,9 @@ record Held (ws : List ℕ) (count top start end low before behind i : ℕ) : Ty
   upto : i ≤ count
   few : before ≤ i
   fewer : behind ≤ i
-  rises : (p : State) → Reach p top → p .count ≡ getD ws 4 0 → rising p 0 (take count (ranges-in ws most)) ≡ rising p low (drop i (take count (ranges-in ws most)))
+  -- as long as none has reached too far
+  rises : (p : State) → Reach p top → p .count ≡ getD ws 4 0 → low ≤ top + 1 → rising p 0 (take count (ranges-in ws most)) ≡ rising p low (drop i (take count (ranges-in ws most)))
+  past : (p : State) → Reach p top → p .count ≡ getD ws 4 0 → top + 1 < low → rising p 0 (take count (ranges-in ws most)) ≡ false
   befores : before + counted (ends-before start) (drop i (take count (ranges-in ws most))) ≡ counted (ends-before start) (take count (ranges-in ws most))
   behinds : behind + counted (begins-by end) (drop i (take count (ranges-in ws most))) ≡ counted (begins-by end) (take count (ranges-in ws most))
 
@@ -65,31 +67,32 @@ module _ (c : tie.After-range-at Inv-loop μ-loop) where
   is : here ≡ getD array i none
   is = c .range-at .ensures ∙ sym (ranges-at (start .args .words .now) most i (omega (arith, less, start .pre .0)))
 
-  -- what is known of all of them where the next begins at or behind `low`
-  rises : (p : State) → Reach p (start .args .top) → p .count ≡ getD (start .args .words .now) 4 0 → (b : Bool) → rising p (at-loop .loop .low) (drop i (take count array)) ≡ b → rising p 0 (take count array) ≡ b
-  rises p reach counts b e = at-loop .loop .inv .rises p reach counts ∙ e
+  abbrev low : ℕ
+  low = at-loop .loop .low
 
--- a range that is not bad ends within `top`
-module _ (c : tie.Else2 Inv-loop μ-loop) where
-  abbrev at-range : tie.After-range-at Inv-loop μ-loop
-  at-range = c .before .before .before .before
+  abbrev top : ℕ
+  top = start .args .top
 
-  fine : (p : State) → Reach p (start at-range .args .top) → p .count ≡ getD (start at-range .args .words .now) 4 0 → bad-range p (here at-range) ≡ false
-  fine p reach counts = sym (c .before .bad-range .ensures p reach counts) ∙ c .if2 .left
+  abbrev accepted : ℕ
+  accepted = getD (start .args .words .now) 4 0
 
-  within : here at-range .end ≤ start at-range .args .top
-  within =
-      let p : State = record { limit = start at-range .args .top; ranges = []; end = Unknown; count = getD (start at-range .args .words .now) 4 0 } in
-      not-bad p (here at-range) (fine p (reach-limit p (start at-range .args .top) refl refl) refl) .1
+  -- all of them are not in order where those that are left are not
+  not-all : (p : State) → Reach p top → p .count ≡ accepted → rising p low (drop i (take count array)) ≡ false → rising p 0 (take count array) ≡ false
+  not-all p reach counts e = go (ltb (top + 1) low) refl
+    where
+      go : (t : Bool) → ltb (top + 1) low ≡ t → rising p 0 (take count array) ≡ false
+      go true l = at-loop .loop .inv .past p reach counts (ltb-true (top + 1) low l)
+      go false l = at-loop .loop .inv .rises p reach counts (ltb-false (top + 1) low l) ∙ e
 
 shared-slice-read-accepted : tie.Need-shared-slice-read-accepted Inv-loop μ-loop
-shared-slice-read-accepted c = omega (arith, c .before .before .pre .2)
+shared-slice-read-accepted c = omega (arith, c .before .before .pre .1)
 
 loop-holds : tie.Need-loop-holds Inv-loop μ-loop
-loop-holds c = record { upto = omega arith; few = omega arith; fewer = omega arith; rises = λ p r e. refl; befores = omega arith; behinds = omega arith }
+loop-holds c =
+    record { upto = omega arith; few = omega arith; fewer = omega arith; rises = λ p r e _. refl; past = λ p r e h. absurd (omega (arith, h)); befores = omega arith; behinds = omega arith }
 
 range-at-requires : tie.Need-range-at-requires Inv-loop μ-loop
-range-at-requires c κs = let s = c .before .before .before .before in (omega (arith, c .loop-test .taken, s .pre .0), s .pre .2)
+range-at-requires c κs = let s = c .before .before .before .before in (omega (arith, c .loop-test .taken, s .pre .0), s .pre .1)
 
 add-i : tie.Need-add-i Inv-loop μ-loop
 add-i c = omega arith
@@ -98,7 +101,7 @@ returns : tie.Need-returns Inv-loop μ-loop
 returns c p reach counts =
     let at = c .before .before in
     record {
-      fine = sym (rises at p reach counts false (rising-low (array at) (i at) (count at) (less at) (long at) (here at) (is at) p (at-loop at .loop .low) (c .if1 .taken)));
+      fine = sym (not-all at p reach counts (rising-low (array at) (i at) (count at) (less at) (long at) (here at) (is at) p (low at) (c .if1 .taken)));
       before = λ e. absurd (false≢true e);
       behind = λ e. absurd (false≢true e);
     }
@@ -108,18 +111,21 @@ bad-range-requires c κs = tt
 
 returns-2 : tie.Need-returns-2 Inv-loop μ-loop
 returns-2 c p reach counts =
-    let at = c .before .before .before .before in
+    let asked = c .before in
+    let at = asked .before .before .before in
+    let bad = bad-anyway (here at) (accepted at) _ (asked .bad-range .ensures) p (top at) reach counts (c .if2 .taken) in
     record {
-      fine = sym (rises at p reach counts false (rising-bad (array at) (i at) (count at) (less at) (long at) (here at) (is at) p (at-loop at .loop .low) (c .before .before .if1 .left) (sym (c .before .bad-range .ensures p reach counts) ∙ c .if2 .taken)));
+      fine = sym (not-all at p reach counts (rising-bad (array at) (i at) (count at) (less at) (long at) (here at) (is at) p (low at) (asked .before .if1 .left) bad));
       before = λ e. absurd (false≢true e);
       behind = λ e. absurd (false≢true e);
     }
 
-add-low : tie.Need-add-low Inv-loop μ-loop
-add-low c = omega (arith, within (c .before), start (at-range (c .before)) .pre .1)
-
 one-if-requires : tie.Need-one-if-requires Inv-loop μ-loop
 one-if-requires c κs = tt
+
+-- the range that was read, where it is not bad
+abbrev at-range : tie.Else2 Inv-loop μ-loop → tie.After-range-at Inv-loop μ-loop
+at-range c = c .before .before .before .before
 
 -- a count grows by at most one
 at-most : (b : Bool) → cond b 1 0 ≤ 1
@@ -145,13 +151,23 @@ loop-less c = omega arith
 loop-again : tie.Need-loop-again Inv-loop μ-loop
 loop-again c =
     let test = c .before .before .before .before .before in
+    let asked = test .before in
     let at = at-range test in
     let inv = at-loop at .loop .inv in
+    let behind-low : low at ≤ here at .start = asked .before .if1 .left in
+    let forth = free-forth (here at) (accepted at) _ (asked .bad-range .ensures) (test .if2 .left) in
     record {
       upto = omega (arith, less at);
       few = omega (arith, c .before .before .one-if .ensures, at-most (ltb (here at .end) (start at .args .start)), inv .few);
       fewer = omega (arith, c .one-if2 .ensures, at-most (leb (here at .start) (start at .args .end)), inv .fewer);
-      rises = λ p reach counts. rises at p reach counts _ (rising-next (array at) (i at) (count at) (less at) (long at) (here at) (is at) p (at-loop at .loop .low) (test .before .before .if1 .left) (fine test p reach counts));
+      rises = λ p reach counts h.
+          inv .rises p reach counts (omega (arith, h, behind-low, forth))
+          ∙ rising-next (array at) (i at) (count at) (less at) (long at) (here at) (is at) p (low at) behind-low
+          (fine-within (here at) (accepted at) _ (asked .bad-range .ensures) p (top at) reach counts (test .if2 .left) (omega (arith, h)));
+      past = λ p reach counts h.
+          not-all at p reach counts
+          (rising-bad (array at) (i at) (count at) (less at) (long at) (here at) (is at) p (low at) behind-low
+          (bad-past (here at) (accepted at) _ (asked .bad-range .ensures) p (top at) reach counts (test .if2 .left) (omega (arith, h))));
       befores =
           counted-next (array at) (i at) (count at) (less at) (long at) (here at) (is at) (ends-before (start at .args .start)) (at-loop at .loop .before) _
           (ap (_+_ (at-loop at .loop .before)) (c .before .before .one-if .ensures))
@@ -164,13 +180,22 @@ loop-again c =
 
 returns-3 : tie.Need-returns-3 Inv-loop μ-loop
 returns-3 c p reach counts =
-    let at = c .before in
+    record {
+      fine = sym (c .before .before .loop .inv .past p reach counts (c .if3 .taken));
+      before = λ e. absurd (false≢true e);
+      behind = λ e. absurd (false≢true e);
+    }
+
+returns-4 : tie.Need-returns-4 Inv-loop μ-loop
+returns-4 c p reach counts =
+    let done = c .before in
+    let at = done .before in
     let a = at .before .before .before .args in
     let all = ranges-in (a .words .now) most in
     record {
-      fine = sym (at .loop .inv .rises p reach counts ∙ rising-done p (at .loop .low) all (at .loop .i) (a .count) (c .loop-test .left));
-      before = λ _. sym (counted-done (ends-before (a .start)) (at .loop .before) all (at .loop .i) (a .count) (c .loop-test .left)) ∙ at .loop .inv .befores;
-      behind = λ _. sym (counted-done (begins-by (a .end)) (at .loop .behind) all (at .loop .i) (a .count) (c .loop-test .left)) ∙ at .loop .inv .behinds;
+      fine = sym (at .loop .inv .rises p reach counts (c .if3 .left) ∙ rising-done p (at .loop .low) all (at .loop .i) (a .count) (done .loop-test .left));
+      before = λ _. sym (counted-done (ends-before (a .start)) (at .loop .before) all (at .loop .i) (a .count) (done .loop-test .left)) ∙ at .loop .inv .befores;
+      behind = λ _. sym (counted-done (begins-by (a .end)) (at .loop .behind) all (at .loop .i) (a .count) (done .loop-test .left)) ∙ at .loop .inv .behinds;
     }
 
 pub survey-spec : {M : Type 1} → statement M
@@ -183,14 +208,18 @@ survey-spec =
     loop-holds
     range-at-requires
     add-i
+    (λ c. search needs)
     returns
     bad-range-requires
     returns-2
-    add-low
+    (λ c. search needs)
+    (λ c. search needs)
     one-if-requires
     add-before
     one-if-requires-2
     add-behind
     loop-less
     loop-again
-    returns-3)
+    (λ c. search needs)
+    returns-3
+    returns-4)

@@ -17,7 +17,7 @@ use Rattle.tp_rules.specs.Judging.{header-judged}
 use Rattle.tp_rules.specs.Malformed.{Reach}
 use Rattle.tp_words.specs.Words.{size, end-of, state-of}
 use Rattle.tp_lent.specs.Lent.{held, unready, last-end, rising, Surveys}
-use Rattle.tp_lent.proofs.ReadyLaws.{enough, few, low, top-low, reach, count-is}
+use Rattle.tp_lent.proofs.ReadyLaws.{enough, few, low, reach, count-is}
 use Rattle.tp_lent.proofs.PlanLaws.{within, passed}
 use borrow.Author.Needs.{needs}
 use Rattle.tp_lent.proofs.planning.plan_of.Statement.{statement}
@@ -95,7 +95,7 @@ top-of-requires c κs = let e = first (told (c .before .before .before .before .
 survey-requires : tie.Need-survey-requires
 survey-requires c κs =
     let e = first (told (c .before .before .before .before .before .before)) in
-    (few (ws e) (ready e), omega (arith, c .top-of .ensures, top-low (ws e) (ready e)), enough (ws e) (ready e))
+    (few (ws e) (ready e), enough (ws e) (ready e))
 
 -- what one pass told
 module _ (c : tie.After-survey) where
