@@ -1,4 +1,4 @@
--- The calls of a stream over words, from what the calls of `tp_stream` and `tp_words` promise; and what follows of calls one after the other.
+-- The calls of a stream over words, from what those of `tp_lent`, `tp_stream` and `tp_words` promise; and what follows of calls one after the other.
 -- Assumes nothing.
 use Prim.Native.Nat.{ℕ, _+_, _≤_, _<_}
 use mathlib.Core.Path.{_≡_, refl, sym, ap, subst, _∙_}

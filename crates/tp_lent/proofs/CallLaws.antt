@@ -18,7 +18,7 @@ use Rattle.refusal.specs.Said.{verdict-said}
 use Rattle.tp_machine.specs.declared.TpRange.{TpRange}
 use Rattle.tp_machine.specs.declared.TpEnd.{TpEnd}
 use Rattle.tp_machine.specs.declared.TpEnd.the-variants.{Unknown}
-use Rattle.tp_machine.specs.Machine.{most, Out, step, clear}
+use Rattle.tp_machine.specs.Machine.{most, bad-range, Out, step, clear}
 use Rattle.tp_machine.specs.Taking.{complete, ready}
 use Rattle.tp_machine.proofs.Steps.{every-step}
 use Rattle.tp_range.specs.Joining.{none}
@@ -32,8 +32,9 @@ use Rattle.tp_stream.proofs.StreamLaws.{cleared}
 use Rattle.tp_words.specs.Words.{size, range-at, ranges-in, end-of, unfit, held-in, stream-of, state-of, flat, words-of, put}
 use Rattle.tp_words.proofs.WordLaws.{in-length}
 use Rattle.tp_words.proofs.PutLaws.{fit, told, put-all}
+use Rattle.tp_range.specs.Ordered.{rising}
 use Rattle.tp_lent.specs.declared.planning.Plan.{Plan}
-use Rattle.tp_lent.specs.Lent.{held, unready, rising, in-order, Planned, CarriedOut, kept, Joins, Cleared}
+use Rattle.tp_lent.specs.Lent.{held, unready, in-order, Planned, CarriedOut, kept, Joins, Cleared}
 use Rattle.tp_lent.proofs.PlaceLaws.{ranges-at, spread-self, spread-behind}
 use Rattle.tp_lent.proofs.RisingLaws.{not-true}
 use Rattle.tp_lent.proofs.ReadyLaws.{enough, few, end-is, ranges-are, not-malformed}
@@ -76,8 +77,8 @@ module _ (ws seg buf : List ℕ) where
 
 -- ---- words in order
 module _ (ws : List ℕ) (is : in-order ws ≡ true) where
-  pub both : (unready ws ≡ false) × (rising (state-of ws) 0 (held ws) ≡ true)
-  both = let a = and-inv _ (rising (state-of ws) 0 (held ws)) is in (not-true (unready ws) (a .0), a .1)
+  pub both : (unready ws ≡ false) × (rising (bad-range (state-of ws)) 0 (held ws) ≡ true)
+  both = let a = and-inv _ (rising (bad-range (state-of ws)) 0 (held ws)) is in (not-true (unready ws) (a .0), a .1)
 
   pub wide : size ≤ length ws
   wide = enough ws (both .0)

@@ -28,7 +28,8 @@ use Rattle.tp_stream.specs.Stream.{stored}
 use Rattle.tp_stream.proofs.StreamLaws.{held-length}
 use Rattle.tp_words.specs.Words.{size, ranges-in, end-of, unfit, state-of, put}
 use Rattle.tp_words.proofs.Holding.{words-hold}
-use Rattle.tp_lent.specs.Lent.{held, top-of, unready, rising, in-order, OrderMeans}
+use Rattle.tp_range.specs.Ordered.{rising}
+use Rattle.tp_lent.specs.Lent.{held, top-of, unready, in-order, OrderMeans}
 use Rattle.tp_lent.proofs.RisingLaws.{rising-order}
 use Rattle.tp_lent.proofs.ReadyLaws.{fits, ranges-are, good, state-limit, state-end, state-ranges}
 use Rattle.tp_lent.proofs.CallLaws.{both}
@@ -42,7 +43,7 @@ none-bad p g =
     let c = or-inv (end-past (p .end) (p .limit)) _ (b .1) in
     any-all (bad-range p) (p .ranges) (or-inv (any (bad-range p) (p .ranges)) _ (c .1) .0)
 
-rises : (p : State) (low : ℕ) (rs : List TpRange) → All (λ r. bad-range p r ≡ false) rs → All (λ r. low ≤ r .start) rs → InOrder rs → rising p low rs ≡ true
+rises : (p : State) (low : ℕ) (rs : List TpRange) → All (λ r. bad-range p r ≡ false) rs → All (λ r. low ≤ r .start) rs → InOrder rs → rising (bad-range p) low rs ≡ true
 unfolding rising
 rises p low [] b l o = refl
 rises p low (r ∷ rs) b l o =

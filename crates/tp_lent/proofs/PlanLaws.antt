@@ -17,7 +17,7 @@ use Rattle.tp_machine.specs.declared.TpEnd.the-variants.{Known}
 use Rattle.tp_machine.specs.Lists.{counted}
 use Rattle.tp_machine.specs.Ranges.{grow, joined, ends-before, begins-by}
 use Rattle.tp_machine.specs.Segments.{is-segment}
-use Rattle.tp_machine.specs.Machine.{most, last-number, State, previous, taken, too-many, counted-out, judged}
+use Rattle.tp_machine.specs.Machine.{most, last-number, State, bad-range, previous, taken, too-many, counted-out, judged}
 use Rattle.tp_machine.specs.Meaning.{range-of, InOrder}
 use Rattle.tp_machine.proofs.Joining.{same-range}
 use Rattle.tp_machine.proofs.InOrder.{joined-split, counted-less, counted-most, grow-none, grow-start, grow-end, grow-number}
@@ -33,8 +33,9 @@ use Rattle.tp_stream.specs.Stream.{stored}
 use Rattle.tp_words.specs.Words.{size, range-at, ranges-in, end-of, held-in, state-of, flat, known, words-of, put}
 use Rattle.tp_words.proofs.WordLaws.{in-length}
 use Rattle.tp_words.proofs.PutLaws.{told, put-all}
+use Rattle.tp_range.specs.Ordered.{rising}
 use Rattle.tp_lent.specs.declared.planning.Plan.{Plan}
-use Rattle.tp_lent.specs.Lent.{held, spread, spanned, unready, last-end, rising, Planned, CarriedOut}
+use Rattle.tp_lent.specs.Lent.{held, spread, spanned, unready, last-end, Planned, CarriedOut}
 use Rattle.tp_lent.proofs.PlaceLaws.{ranges-at, spread-first, spread-behind, all-length, long}
 use Rattle.tp_lent.proofs.RisingLaws.{rising-forth, rising-order, rising-numbers}
 use Rattle.tp_lent.proofs.ReadyLaws.{fits, enough, few, limit-is, end-is, count-is, ranges-are, good, last-is}
@@ -44,7 +45,7 @@ pub within : (limit : ℕ) (end : TpEnd) (least : ℕ) (h : TpHeader) (room : �
 unfolding header-judged
 within limit end least h room e = ltb-false limit (h .offset + h .size) (when-accepted _ _ _ tt e .0)
 
-module _ (ws seg : List ℕ) (room : ℕ) (ready : unready ws ≡ false) (is : is-segment seg ≡ true) (order : rising (state-of ws) 0 (held ws) ≡ true) where
+module _ (ws seg : List ℕ) (room : ℕ) (ready : unready ws ≡ false) (is : is-segment seg ≡ true) (order : rising (bad-range (state-of ws)) 0 (held ws) ≡ true) where
   pub passed : (h : TpHeader) → h ≡ header-of seg → header-judged (getD ws 0 0) (end-of (getD ws 2 0) (getD ws 3 0)) (cond (h .more) 0 (last-end ws (getD ws 1 0))) h room ≡ pass
       → Passed (state-of ws) seg room (header-of seg)
   passed h e q =

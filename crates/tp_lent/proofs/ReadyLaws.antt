@@ -25,7 +25,8 @@ use Rattle.tp_stream.proofs.MalformedLaws.{two-touch}
 use Rattle.tp_words.specs.Words.{size, ranges-in, end-of, unfit, held-in, stream-of, state-of}
 use Rattle.tp_words.proofs.WordLaws.{in-length}
 use Rattle.tp_words.proofs.PutLaws.{fit, told}
-use Rattle.tp_lent.specs.Lent.{held, top-of, unready, last-end, rising}
+use Rattle.tp_range.specs.Ordered.{rising}
+use Rattle.tp_lent.specs.Lent.{held, top-of, unready, last-end}
 use Rattle.tp_lent.proofs.PlaceLaws.{ranges-at}
 use Rattle.tp_lent.proofs.RisingLaws.{none-bad, none-touch, greatest-last}
 
@@ -112,7 +113,7 @@ module _ (ws : List ℕ) (ready : unready ws ≡ false) where
   reach = reach-top known (getD ws 3 0) limit (eqb known 0) refl reaches p limit-is end-is
 
   -- ---- where its ranges stand in order
-  module _ (order : rising p 0 (held ws) ≡ true) where
+  module _ (order : rising (bad-range p) 0 (held ws) ≡ true) where
     pub not-malformed : bad-state p ≡ false
     unfolding held-in
     not-malformed =

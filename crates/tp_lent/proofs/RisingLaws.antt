@@ -6,12 +6,12 @@ use mathlib.Core.List.{List, [], _∷_}
 use mathlib.Core.Logic.{inl}
 use native.Mathlib.Nat.{le-refl}
 use native.Mathlib.Omega.{arith}
-use borrow.Author.Tests.{lt-ltb, le-ltb, ltb-true, ltb-false}
+use borrow.Author.Tests.{ltb-true, ltb-false}
 use lib.Dec.{ltb, eqb}
 use lib.ListN.{length, take, drop, getD}
 use Rattle.numbers.specs.Answers.{All}
 use Rattle.numbers.proofs.AnswerLaws.{all-map}
-use Rattle.numbers.proofs.TestLaws.{or-inv, and-inv}
+use Rattle.numbers.proofs.TestLaws.{or-inv}
 use Rattle.tp_machine.specs.declared.TpRange.{TpRange}
 use Rattle.tp_machine.specs.Lists.{Pairwise, counted}
 use Rattle.tp_machine.specs.Ranges.{any, some-touch, greatest-end}
@@ -21,10 +21,11 @@ use Rattle.tp_machine.specs.Meaning.{Apart, Before, InOrder}
 use Rattle.tp_machine.proofs.Lists.{all-any}
 use Rattle.tp_machine.proofs.Joining.{all-apart}
 use Rattle.tp_range.specs.Joining.{none}
-use Rattle.tp_range.proofs.Laws.{front, past-end}
+use Rattle.tp_range.specs.Ordered.{rising}
+use Rattle.tp_range.proofs.Laws.{past-end}
+use Rattle.tp_range.proofs.OrderLaws.{left, first-rises}
 use Rattle.tp_rules.specs.Malformed.{Reach}
 use Rattle.tp_rules.proofs.MalformedLaws.{reach-limit, bad-early, bad-late, bad-number}
-use Rattle.tp_lent.specs.Lent.{rising}
 
 -- ---- what a range has that is not bad
 pub not-bad : (p : State) (r : TpRange) → bad-range p r ≡ false → (r .start ≤ r .end) × (r .end ≤ p .limit) × (r .number ≤ p .count)
@@ -74,26 +75,9 @@ module _ (r : TpRange) (accepted : ℕ) (b : Bool) (told : (q : State) → Reach
 
 -- ---- one range more: what is left of the first n from i on, and the range r at i
 module _ (array : List TpRange) (i n : ℕ) (h : i < n) (k : n ≤ length array) (r : TpRange) (is : r ≡ getD array i none) where
-  left : drop i (take n array) ≡ r ∷ drop (i + 1) (take n array)
-  left = front array i n none h k ∙ ap (λ (x : TpRange). x ∷ drop (i + 1) (take n array)) (sym is)
-
-  module _ (p : State) (low : ℕ) where
-    pub rising-low : r .start < low → rising p low (drop i (take n array)) ≡ false
-    unfolding rising
-    rising-low l = rw (left, lt-ltb (r .start) low l)
-
-    module _ (l : low ≤ r .start) where
-      pub rising-bad : bad-range p r ≡ true → rising p low (drop i (take n array)) ≡ false
-      unfolding rising
-      rising-bad b = rw (left, le-ltb (r .start) low l, b)
-
-      pub rising-next : bad-range p r ≡ false → rising p low (drop i (take n array)) ≡ rising p (r .end + 1) (drop (i + 1) (take n array))
-      unfolding rising
-      rising-next b = rw (left, le-ltb (r .start) low l, b)
-
   pub counted-next : (f : TpRange → Bool) (x y : ℕ) → y ≡ x + cond (f r) 1 0 → y + counted f (drop (i + 1) (take n array)) ≡ x + counted f (drop i (take n array))
   unfolding counted
-  counted-next f x y e = rw left (go (f r) e)
+  counted-next f x y e = rw (left array i n h k r is) (go (f r) e)
     where
       others : ℕ
       others = counted f (drop (i + 1) (take n array))
@@ -101,10 +85,6 @@ module _ (array : List TpRange) (i n : ℕ) (h : i < n) (k : n ≤ length array)
       go : (b : Bool) → y ≡ x + cond b 1 0 → y + others ≡ x + cond b (suc others) others
       go true q = omega arith
       go false q = omega arith
-
-pub rising-done : (p : State) (low : ℕ) (array : List TpRange) (i n : ℕ) → n ≤ i → rising p low (drop i (take n array)) ≡ true
-unfolding rising
-rising-done p low array i n h = rw (past-end array i n h)
 
 pub counted-done : (f : TpRange → Bool) (x : ℕ) (array : List TpRange) (i n : ℕ) → n ≤ i → x + counted f (drop i (take n array)) ≡ x
 unfolding counted
@@ -116,39 +96,31 @@ not-true true e = absurd (false≢true e)
 not-true false e = refl
 
 module _ (p : State) where
-  -- the first of them, and the others
-  first-rises : (low : ℕ) (r : TpRange) (rs : List TpRange) → rising p low (r ∷ rs) ≡ true → (low ≤ r .start) × (bad-range p r ≡ false) × (rising p (r .end + 1) rs ≡ true)
-  unfolding rising
-  first-rises low r rs e =
-      let a = and-inv (not (ltb (r .start) low)) _ e in
-      let b = and-inv (not (bad-range p r)) (rising p (r .end + 1) rs) (a .1) in
-      (ltb-false (r .start) low (not-true (ltb (r .start) low) (a .0)), not-true (bad-range p r) (b .0), b .1)
-
-  pub rising-each : (low : ℕ) (rs : List TpRange) → rising p low rs ≡ true → All (λ r. bad-range p r ≡ false) rs
+  pub rising-each : (low : ℕ) (rs : List TpRange) → rising (bad-range p) low rs ≡ true → All (λ r. bad-range p r ≡ false) rs
   rising-each low [] e = tt
-  rising-each low (r ∷ rs) e = let f = first-rises low r rs e in (f .1, rising-each (r .end + 1) rs (f .2))
+  rising-each low (r ∷ rs) e = let f = first-rises (bad-range p) low r rs e in (f .1, rising-each (r .end + 1) rs (f .2))
 
-  pub rising-forth : (low : ℕ) (rs : List TpRange) → rising p low rs ≡ true → All (λ r. r .start ≤ r .end) rs
+  pub rising-forth : (low : ℕ) (rs : List TpRange) → rising (bad-range p) low rs ≡ true → All (λ r. r .start ≤ r .end) rs
   rising-forth low rs e = all-map (λ r. bad-range p r ≡ false) (λ r. r .start ≤ r .end) (λ r b. not-bad p r b .0) rs (rising-each low rs e)
 
-  pub rising-numbers : (low : ℕ) (rs : List TpRange) → rising p low rs ≡ true → All (λ r. r .number ≤ p .count) rs
+  pub rising-numbers : (low : ℕ) (rs : List TpRange) → rising (bad-range p) low rs ≡ true → All (λ r. r .number ≤ p .count) rs
   rising-numbers low rs e = all-map (λ r. bad-range p r ≡ false) (λ r. r .number ≤ p .count) (λ r b. not-bad p r b .2) rs (rising-each low rs e)
 
   -- each begins at m or behind it
-  rising-from : (m low : ℕ) (rs : List TpRange) → m ≤ low → rising p low rs ≡ true → All (λ r. m ≤ r .start) rs
+  rising-from : (m low : ℕ) (rs : List TpRange) → m ≤ low → rising (bad-range p) low rs ≡ true → All (λ r. m ≤ r .start) rs
   rising-from m low [] h e = tt
   rising-from m low (r ∷ rs) h e =
-      let f = first-rises low r rs e in
+      let f = first-rises (bad-range p) low r rs e in
       (omega (arith, f .0), rising-from m (r .end + 1) rs (omega (arith, f .0, not-bad p r (f .1) .0)) (f .2))
 
-  pub rising-order : (low : ℕ) (rs : List TpRange) → rising p low rs ≡ true → InOrder rs
+  pub rising-order : (low : ℕ) (rs : List TpRange) → rising (bad-range p) low rs ≡ true → InOrder rs
   rising-order low [] e = tt
-  rising-order low (r ∷ rs) e = let f = first-rises low r rs e in (all-map (λ x. r .end + 1 ≤ x .start) (Before r) (λ x h. omega arith) rs (rising-from (r .end + 1) (r .end + 1) rs (le-refl (r .end + 1)) (f .2)), rising-order (r .end + 1) rs (f .2))
+  rising-order low (r ∷ rs) e = let f = first-rises (bad-range p) low r rs e in (all-map (λ x. r .end + 1 ≤ x .start) (Before r) (λ x h. omega arith) rs (rising-from (r .end + 1) (r .end + 1) rs (le-refl (r .end + 1)) (f .2)), rising-order (r .end + 1) rs (f .2))
 
-  pub none-bad : (low : ℕ) (rs : List TpRange) → rising p low rs ≡ true → any (bad-range p) rs ≡ false
+  pub none-bad : (low : ℕ) (rs : List TpRange) → rising (bad-range p) low rs ≡ true → any (bad-range p) rs ≡ false
   none-bad low rs e = all-any (bad-range p) rs (rising-each low rs e)
 
-  pub none-touch : (low : ℕ) (rs : List TpRange) → rising p low rs ≡ true → some-touch rs ≡ false
+  pub none-touch : (low : ℕ) (rs : List TpRange) → rising (bad-range p) low rs ≡ true → some-touch rs ≡ false
   none-touch low rs e = all-apart rs .1 (apart rs (rising-order low rs e))
     where
       apart : (xs : List TpRange) → InOrder xs → Pairwise Apart xs
@@ -156,14 +128,14 @@ module _ (p : State) where
       apart (x ∷ xs) o = (all-map (Before x) (Apart x) (λ y h. inl h) xs (o .0), apart xs (o .1))
 
   -- the last of them ends last
-  last-ends : (low : ℕ) (r : TpRange) (rs : List TpRange) → rising p low (r ∷ rs) ≡ true → getD (r ∷ rs) (length rs) none .end ≡ greatest-end (r ∷ rs)
+  last-ends : (low : ℕ) (r : TpRange) (rs : List TpRange) → rising (bad-range p) low (r ∷ rs) ≡ true → getD (r ∷ rs) (length rs) none .end ≡ greatest-end (r ∷ rs)
   unfolding greatest-end
   last-ends low r [] e = omega arith
   last-ends low r (s ∷ rs) e =
-      let f = first-rises low r (s ∷ rs) e in
-      let g = first-rises (r .end + 1) s rs (f .2) in
+      let f = first-rises (bad-range p) low r (s ∷ rs) e in
+      let g = first-rises (bad-range p) (r .end + 1) s rs (f .2) in
       omega (arith, last-ends (r .end + 1) s rs (f .2), g .0, not-bad p s (g .1) .0)
 
-  pub greatest-last : (low : ℕ) (rs : List TpRange) → rising p low rs ≡ true → (n : ℕ) → length rs ≡ n + 1 → getD rs n none .end ≡ greatest-end rs
+  pub greatest-last : (low : ℕ) (rs : List TpRange) → rising (bad-range p) low rs ≡ true → (n : ℕ) → length rs ≡ n + 1 → getD rs n none .end ≡ greatest-end rs
   greatest-last low [] e n h = absurd (omega arith)
   greatest-last low (r ∷ rs) e n h = let at : n ≡ length rs = omega arith in ap (λ (m : ℕ). getD (r ∷ rs) m none .end) at ∙ last-ends low r rs e

@@ -2,7 +2,7 @@
 use Prim.Native.Nat.{ℕ, _+_, _*_, _-_, _≤_, _<_, min, max}
 use mathlib.Core.Path.{_≡_}
 use mathlib.Core.Bool.{Bool, true, false, _&&_, _||_, not, cond}
-use mathlib.Core.List.{List, [], _∷_, _++_}
+use mathlib.Core.List.{List, _++_}
 use mathlib.Core.Logic.{_⊎_, _↔_}
 use lib.ListN.{length, take, drop, getD, set}
 use lib.Dec.{ltb, eqb}
@@ -17,6 +17,7 @@ use Rattle.tp_machine.specs.Segments.{offset, more, end-of as end-of-segment, w
 use Rattle.tp_machine.specs.Machine.{most, highest, last-number, State, bad-range, taken, step, clear}
 use Rattle.tp_machine.specs.Meaning.{range-of, InOrder, Good}
 use Rattle.tp_machine.specs.Runs.{Reached}
+use Rattle.tp_range.specs.Ordered.{rising}
 use Rattle.tp_segment.specs.Reading.{header-of}
 use Rattle.tp_rules.specs.Judging.{Passed}
 use Rattle.tp_stream.specs.declared.TpStream.{TpStream}
@@ -57,14 +58,9 @@ top-of ws = cond (eqb (getD ws 2 0) 0) (getD ws 0 0) (getD ws 3 0)
 abbrev pub unready : List ℕ → Bool
 unready ws = unfit ws || (ltb most (getD ws 1 0) || (ltb highest (getD ws 0 0) || ltb (getD ws 0 0) (top-of ws)))
 
--- each range begins at `low` or behind it and is not bad, and those behind it begin behind its end
-unfoldable pub rising : State → (low : ℕ) → List TpRange → Bool
-rising p low [] = true
-rising p low (r ∷ rs) = not (ltb (r .start) low) && (not (bad-range p r) && rising p (r .end + 1) rs)
-
 -- words that hold a stream that is not malformed, its ranges in order
 abbrev pub in-order : List ℕ → Bool
-in-order ws = not (unready ws) && rising (state-of ws) 0 (held ws)
+in-order ws = not (unready ws) && rising (bad-range (state-of ws)) 0 (held ws)
 
 -- what that means, both ways; and words into which a state is put that a run comes to are in order, so that one pass judges them
 pub record OrderMeans : Type 0 where
@@ -92,7 +88,7 @@ last-end ws n = cond (eqb n 0) 0 (range-at ws (n - 1) .end)
 
 -- what one pass tells of ranges that stand in order: how many end before `start`, and how many begin at `end` or before
 pub record Surveys (p : State) (rs : List TpRange) (start end : ℕ) (r : Found) : Type 0 where
-  pub fine : r .fine ≡ rising p 0 rs
+  pub fine : r .fine ≡ rising (bad-range p) 0 rs
   pub before : r .fine ≡ true → r .before ≡ counted (ends-before start) rs
   pub behind : r .fine ≡ true → r .behind ≡ counted (begins-by end) rs
 
@@ -104,7 +100,7 @@ pub record RoomLeft (f : Found) (count : ℕ) : Type 0 where
 -- a segment that passes all tests: its range, and where that belongs among those that are held
 pub record Planned (ws seg : List ℕ) (room : ℕ) (r : Plan) : Type 0 where
   pub ready : unready ws ≡ false
-  pub order : rising (state-of ws) 0 (held ws) ≡ true
+  pub order : rising (bad-range (state-of ws)) 0 (held ws) ≡ true
   pub passed : Passed (state-of ws) seg room (header-of seg)
   pub number-left : getD ws 4 0 < last-number
   pub new : r .new ≡ range-of (getD ws 4 0 + 1) seg

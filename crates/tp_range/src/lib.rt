@@ -7,7 +7,7 @@ ghost use Rattle.tp_machine.specs.Ranges.{touch, hull-of, inserted, some-touch,
 ghost use Rattle.tp_machine.specs.Machine.{most};
 ghost use Rattle.tp_range.specs.Joining.{placed, joined-in};
 ghost use Rattle.tp_range.specs.Inserting.{place};
-ghost use Rattle.tp_range.specs.Ordered.{ordered};
+ghost use Rattle.tp_range.specs.Ordered.{rising, backward};
 use tp_machine::TpRange;
 
 // How many ranges are held at most.
@@ -139,7 +139,7 @@ pub fn join(ranges: [TpRange; MAX_RANGES], count: usize, new: TpRange) -> Joined
 // Whether each of the first `count` begins behind the end of the one before it, and none ends before it begins: then no two touch.
 fn in_order(ranges: [TpRange; MAX_RANGES], count: usize) -> bool
     requires { ⌜ count ≤ most ⌝ }
-    ensures { λ b. ⌜ b ≡ ordered 0 (take count ranges) ⌝ }
+    ensures { λ b. ⌜ b ≡ rising backward 0 (take count ranges) ⌝ }
 {
     let mut low: usize = 0;
     let mut i: usize = 0;

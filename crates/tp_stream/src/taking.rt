@@ -1,7 +1,7 @@
 // Whether a stream's report can be taken: answers 38, 37, 34.
 ghost use mathlib.Core.Path.{_≡_};
 ghost use Rattle.refusal.specs.Said.{count-said};
-ghost use Rattle.tp_machine.specs.Taking.{ready as ready-at};
+ghost use Rattle.tp_machine.specs.Taking.{ready as ready-of};
 ghost use Rattle.tp_stream.specs.Stream.{view};
 use crate::TpStream;
 use refusal::Count;
@@ -9,7 +9,7 @@ use refusal::Refusal;
 
 // Answers 38, 37 and 34 for a buffer of `room` bytes, or where the one range ends.
 pub(crate) fn ready(s: TpStream, room: usize) -> Count
-    ensures { λ r. ⌜ count-said r ≡ ready-at (view s) room ⌝ }
+    ensures { λ r. ⌜ count-said r ≡ ready-of (view s) room ⌝ }
 {
     if crate::malformed::malformed(s) {
         return Count::Refused(Refusal::MalformedState);

@@ -9,7 +9,7 @@ use Rattle.tp_machine.specs.declared.TpRange.{TpRange}
 use Rattle.tp_machine.specs.Machine.{most}
 use Rattle.tp_machine.specs.Ranges.{some-touch}
 use Rattle.tp_range.proofs.Laws.{take-places}
-use Rattle.tp_range.proofs.OrderLaws.{ordered-apart}
+use Rattle.tp_range.proofs.OrderLaws.{rising-apart}
 use Rattle.tp_range.proofs.some_touch.Statement.{statement}
 use Rattle.tp_range.proofs.some_touch.Tie as tie
 
@@ -25,7 +25,7 @@ module _ (c : tie.After-places) where
   same = ap some-touch (ap (λ (n : ℕ). take n (c .before .args .ranges)) (c .places .ensures) ∙ take-places (c .before .args .ranges) (c .before .args .count) long)
 
 returns : tie.Need-returns
-returns c = sym (ordered-apart 0 _ (sym (c .before .in-order .ensures) ∙ c .if1 .taken)) ∙ same (c .before .before)
+returns c = sym (rising-apart 0 _ (sym (c .before .in-order .ensures) ∙ c .if1 .taken)) ∙ same (c .before .before)
 
 returns-2 : tie.Need-returns-2
 returns-2 c = c .two-touch .ensures ∙ same (c .before .before .before)

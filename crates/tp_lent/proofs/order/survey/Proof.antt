@@ -9,16 +9,17 @@ use lib.ListN.{length, take, drop, getD}
 use Rattle.tp_machine.specs.declared.TpRange.{TpRange}
 use Rattle.tp_machine.specs.Lists.{counted}
 use Rattle.tp_machine.specs.Ranges.{ends-before, begins-by}
-use Rattle.tp_machine.specs.Machine.{most, State}
+use Rattle.tp_machine.specs.Machine.{most, State, bad-range}
 use Rattle.tp_rules.specs.Malformed.{Reach}
 use Rattle.tp_range.specs.Joining.{none}
+use Rattle.tp_range.specs.Ordered.{rising}
+use Rattle.tp_range.proofs.OrderLaws.{rising-low, rising-bad, rising-next, rising-done}
 use Rattle.tp_words.specs.Words.{ranges-in}
 use Rattle.tp_words.proofs.WordLaws.{in-length}
-use Rattle.tp_lent.specs.Lent.{rising}
 use Rattle.tp_lent.proofs.PlaceLaws.{ranges-at}
 use borrow.Author.Needs.{needs}
 use borrow.Author.Tests.{ltb-true, ltb-false}
-use Rattle.tp_lent.proofs.RisingLaws.{free-forth, bad-anyway, bad-past, fine-within, rising-low, rising-bad, rising-next, rising-done, counted-next, counted-done}
+use Rattle.tp_lent.proofs.RisingLaws.{free-forth, bad-anyway, bad-past, fine-within, counted-next, counted-done}
 use Rattle.tp_lent.proofs.order.survey.Statement.{statement}
 use Rattle.tp_lent.proofs.order.survey.Tie as tie
 
@@ -27,8 +28,8 @@ record Held (ws : List ℕ) (count top start end low before behind i : ℕ) : Ty
   few : before ≤ i
   fewer : behind ≤ i
   -- as long as none has reached too far
-  rises : (p : State) → Reach p top → p .count ≡ getD ws 4 0 → low ≤ top + 1 → rising p 0 (take count (ranges-in ws most)) ≡ rising p low (drop i (take count (ranges-in ws most)))
-  past : (p : State) → Reach p top → p .count ≡ getD ws 4 0 → top + 1 < low → rising p 0 (take count (ranges-in ws most)) ≡ false
+  rises : (p : State) → Reach p top → p .count ≡ getD ws 4 0 → low ≤ top + 1 → rising (bad-range p) 0 (take count (ranges-in ws most)) ≡ rising (bad-range p) low (drop i (take count (ranges-in ws most)))
+  past : (p : State) → Reach p top → p .count ≡ getD ws 4 0 → top + 1 < low → rising (bad-range p) 0 (take count (ranges-in ws most)) ≡ false
   befores : before + counted (ends-before start) (drop i (take count (ranges-in ws most))) ≡ counted (ends-before start) (take count (ranges-in ws most))
   behinds : behind + counted (begins-by end) (drop i (take count (ranges-in ws most))) ≡ counted (begins-by end) (take count (ranges-in ws most))
 
@@ -77,10 +78,10 @@ module _ (c : tie.After-range-at Inv-loop μ-loop) where
   accepted = getD (start .args .words .now) 4 0
 
   -- all of them are not in order where those that are left are not
-  not-all : (p : State) → Reach p top → p .count ≡ accepted → rising p low (drop i (take count array)) ≡ false → rising p 0 (take count array) ≡ false
+  not-all : (p : State) → Reach p top → p .count ≡ accepted → rising (bad-range p) low (drop i (take count array)) ≡ false → rising (bad-range p) 0 (take count array) ≡ false
   not-all p reach counts e = go (ltb (top + 1) low) refl
     where
-      go : (t : Bool) → ltb (top + 1) low ≡ t → rising p 0 (take count array) ≡ false
+      go : (t : Bool) → ltb (top + 1) low ≡ t → rising (bad-range p) 0 (take count array) ≡ false
       go true l = at-loop .loop .inv .past p reach counts (ltb-true (top + 1) low l)
       go false l = at-loop .loop .inv .rises p reach counts (ltb-false (top + 1) low l) ∙ e
 
@@ -101,7 +102,7 @@ returns : tie.Need-returns Inv-loop μ-loop
 returns c p reach counts =
     let at = c .before .before in
     record {
-      fine = sym (not-all at p reach counts (rising-low (array at) (i at) (count at) (less at) (long at) (here at) (is at) p (low at) (c .if1 .taken)));
+      fine = sym (not-all at p reach counts (rising-low (bad-range p) (array at) (i at) (count at) (less at) (long at) (here at) (is at) (low at) (c .if1 .taken)));
       before = λ e. absurd (false≢true e);
       behind = λ e. absurd (false≢true e);
     }
@@ -115,7 +116,7 @@ returns-2 c p reach counts =
     let at = asked .before .before .before in
     let bad = bad-anyway (here at) (accepted at) _ (asked .bad-range .ensures) p (top at) reach counts (c .if2 .taken) in
     record {
-      fine = sym (not-all at p reach counts (rising-bad (array at) (i at) (count at) (less at) (long at) (here at) (is at) p (low at) (asked .before .if1 .left) bad));
+      fine = sym (not-all at p reach counts (rising-bad (bad-range p) (array at) (i at) (count at) (less at) (long at) (here at) (is at) (low at) (asked .before .if1 .left) bad));
       before = λ e. absurd (false≢true e);
       behind = λ e. absurd (false≢true e);
     }
@@ -162,11 +163,11 @@ loop-again c =
       fewer = omega (arith, c .one-if2 .ensures, at-most (leb (here at .start) (start at .args .end)), inv .fewer);
       rises = λ p reach counts h.
           inv .rises p reach counts (omega (arith, h, behind-low, forth))
-          ∙ rising-next (array at) (i at) (count at) (less at) (long at) (here at) (is at) p (low at) behind-low
+          ∙ rising-next (bad-range p) (array at) (i at) (count at) (less at) (long at) (here at) (is at) (low at) behind-low
           (fine-within (here at) (accepted at) _ (asked .bad-range .ensures) p (top at) reach counts (test .if2 .left) (omega (arith, h)));
       past = λ p reach counts h.
           not-all at p reach counts
-          (rising-bad (array at) (i at) (count at) (less at) (long at) (here at) (is at) p (low at) behind-low
+          (rising-bad (bad-range p) (array at) (i at) (count at) (less at) (long at) (here at) (is at) (low at) behind-low
           (bad-past (here at) (accepted at) _ (asked .bad-range .ensures) p (top at) reach counts (test .if2 .left) (omega (arith, h))));
       befores =
           counted-next (array at) (i at) (count at) (less at) (long at) (here at) (is at) (ends-before (start at .args .start)) (at-loop at .loop .before) _
@@ -193,7 +194,7 @@ returns-4 c p reach counts =
     let a = at .before .before .before .args in
     let all = ranges-in (a .words .now) most in
     record {
-      fine = sym (at .loop .inv .rises p reach counts (c .if3 .left) ∙ rising-done p (at .loop .low) all (at .loop .i) (a .count) (done .loop-test .left));
+      fine = sym (at .loop .inv .rises p reach counts (c .if3 .left) ∙ rising-done (bad-range p) (at .loop .low) all (at .loop .i) (a .count) (done .loop-test .left));
       before = λ _. sym (counted-done (ends-before (a .start)) (at .loop .before) all (at .loop .i) (a .count) (done .loop-test .left)) ∙ at .loop .inv .befores;
       behind = λ _. sym (counted-done (begins-by (a .end)) (at .loop .behind) all (at .loop .i) (a .count) (done .loop-test .left)) ∙ at .loop .inv .behinds;
     }

@@ -10,13 +10,15 @@ use Rattle.tp_machine.specs.Lists.{counted}
 use Rattle.tp_machine.specs.Ranges.{ends-before, begins-by}
 use Rattle.tp_machine.specs.Segments.{is-segment}
 use Rattle.tp_machine.specs.Meaning.{range}
+use Rattle.tp_machine.specs.Machine.{bad-range}
 use Rattle.tp_segment.specs.declared.TpHeader.{TpHeader}
 use Rattle.tp_segment.specs.Reading.{header-of, segment-said}
 use Rattle.tp_segment.proofs.Laws.{reading-good}
 use Rattle.tp_rules.specs.Judging.{header-judged}
 use Rattle.tp_rules.specs.Malformed.{Reach}
 use Rattle.tp_words.specs.Words.{size, end-of, state-of}
-use Rattle.tp_lent.specs.Lent.{held, unready, last-end, rising, Surveys}
+use Rattle.tp_range.specs.Ordered.{rising}
+use Rattle.tp_lent.specs.Lent.{held, unready, last-end, Surveys}
 use Rattle.tp_lent.proofs.ReadyLaws.{enough, few, low, reach, count-is}
 use Rattle.tp_lent.proofs.PlanLaws.{within, passed}
 use borrow.Author.Needs.{needs}
@@ -114,7 +116,7 @@ returns-3 c e =
     let s = surveyed at-survey in
     let left = c .before .room-left .ensures (c .if4 .taken) in
     let i = is-read (told (second at-survey)) in
-    let order : rising (state-of (ws (here at-survey))) 0 (held (ws (here at-survey))) ≡ true = sym (s .fine) ∙ left .fine in
+    let order : rising (bad-range (state-of (ws (here at-survey)))) 0 (held (ws (here at-survey))) ≡ true = sym (s .fine) ∙ left .fine in
     record {
       ready = ready (here at-survey);
       order = order;
