@@ -1,4 +1,6 @@
 // Numbers out of their bytes, the high byte first. Functions of bytes, so that they ask nothing of a slice.
+#![tactic(auto)]
+
 ghost use Rattle.std.specs.Prelude.{◌≡◌, ◌+◌, ◌*◌};
 
 // The number of two bytes.

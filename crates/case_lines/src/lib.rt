@@ -1,5 +1,7 @@
 // A case on a line, for the programs that run the rules' cases: what was read, and the answer with its number and values. Where an exported function
 // told something else than the public one, the line says so.
+#![tactic(auto)]
+
 ghost use Rattle.std.specs.Prelude.{◌≤◌};
 
 use hub::answers::Answer;

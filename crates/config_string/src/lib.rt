@@ -2,6 +2,8 @@
 // One function for each rule, all with the same answer; an item's bytes are looked at once, and no further than its key.
 // Below, `at` is the place of the item's length byte, which the errors give and at which they are told; a string that does not end is refused at
 // its own end.
+#![tactic(auto)]
+
 mod classes; // classes.rt: the table of byte classes
 
 ghost use Rattle.std.specs.Prelude.{◌≡◌};

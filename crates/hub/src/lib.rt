@@ -1,4 +1,6 @@
 // What C and Rust programs call: the exported functions, over the proved ones, in numbers alone. include/viaductle.h declares them.
+#![tactic(auto)]
+
 pub mod answers; // answers.rt: answers as numbers
 pub mod settings; // settings.rt: settings as a word of bits
 pub mod tp; // tp.rt: the calls of a stream over words that the caller keeps

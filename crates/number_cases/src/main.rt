@@ -1,6 +1,8 @@
 // Runs the cases of arrival numbers through the public functions and the exported ones, and prints each on a line: what came, the answer to it, and
 // then how many segments were accepted and each range with its number. The file stdout holds what the rules say; where an exported function told
 // something else, the line says so.
+#![tactic(auto)]
+
 use case_lines::{exported, judged};
 use hub::tp::{viaductle_clear, viaductle_count, viaductle_range};
 use print::{number, text};

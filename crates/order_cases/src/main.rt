@@ -2,6 +2,8 @@
 // prints each order on a line: what came, the answer to it, and at the end the report. They are those of tp_machine's instances
 // (specs/AnyOrderCases.antt), but for the letters. The file stdout holds what the rules say; where an exported function told something else, the line
 // says so.
+#![tactic(auto)]
+
 use big_endian::be32;
 use case_lines::{exported, judged};
 use hub::tp::{viaductle_consume, viaductle_take};

@@ -1,5 +1,7 @@
 // Text, numbers and refusals on standard output, for the programs. The logic has no word for what is written there, so no contract says it:
 // what a program prints is held to its file `stdout`.
+#![tactic(auto)]
+
 use libc::STDOUT_FILENO;
 use refusal::{Numbers, PLACES};
 

@@ -1,5 +1,7 @@
 // Everything that is refused, once for all layers, whose answers hold it; the rules' number and values for it; and the two answers that
 // all layers share. Offsets and lengths are `usize`, numbers off the wire have their width there.
+#![tactic(auto)]
+
 mod answers; // answers.rt: a verdict, and a count
 mod places; // places.rt: a refusal's place, counted from further to the front
 mod values; // values.rt: the number and the values of a refusal

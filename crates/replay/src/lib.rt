@@ -1,5 +1,7 @@
 // Recorded answers of the Rust crate (compare/FORMAT.md) for the programs that replay them: the parts of a record, its check sums, and the
 // counting of what agreed. A record is its bytes after the length; what stands past its end reads as 0.
+#![tactic(auto)]
+
 mod counts;
 mod file;
 mod record;

@@ -1,6 +1,8 @@
 // Runs the rules' cases of service discovery through the public functions and the exported ones, and prints each on a
 // line: what was read, and the answer with its number and values. The file stdout holds what the rules say; a string's error is told by its
 // place among the six. Where an exported function told something else, the line says so.
+#![tactic(auto)]
+
 use case_lines::{DISCARDING, answer, payload};
 use refusal::{Verdict, none, numbers_of};
 use sd_option::PLAIN;

@@ -1,5 +1,7 @@
 // One entry of 16 bytes: read from the front of some bytes, judged beside a number of options, and handed out by a cursor. The names are
 // the Rust crate's; what the two kinds of entries share stands once, in `EntryHead`.
+#![tactic(auto)]
+
 mod cursor;
 mod runs;
 

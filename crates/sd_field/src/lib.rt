@@ -1,5 +1,7 @@
 // One option by its kind's own fields, as one value that is read once. What no value holds, a configuration option's string and an unknown
 // option's bytes, is a part of the bytes handed in.
+#![tactic(auto)]
+
 mod codes; // codes.rt: the type code of an option
 mod places; // places.rt: the numbers and the addresses at their places
 

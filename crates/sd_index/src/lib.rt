@@ -1,5 +1,7 @@
 // The options part of a payload: all options read into a lent table of byte offsets, lookup by an option's number, and the cursors that hand
 // options out. The table is 347 slots of the caller's.
+#![tactic(auto)]
+
 mod cursor;
 mod lookup;
 mod permission;

@@ -1,4 +1,6 @@
 // One option: its kind, and its reading from the front of a slice. Its fields: crate sd_field.
+#![tactic(auto)]
+
 pub mod kinds;
 pub mod reading;
 

@@ -1,5 +1,7 @@
 // A whole service discovery payload, and the message with its SD header: every refusal in the rules' order, the offsets of the options in a
 // lent table, and the parts of the payload as parts of the caller's bytes.
+#![tactic(auto)]
+
 mod entries;
 mod header;
 mod parts;

@@ -1,5 +1,7 @@
 // Replays what the Rust crate said to payloads, messages, options parts, entries, options and strings (the file that the first argument names;
 // compare/FORMAT.md), and prints how many records agree, by what was read and by answer, and the first that does not.
+#![tactic(auto)]
+
 use print::{line, text};
 use replay::earlier;
 

@@ -1,6 +1,8 @@
 // sd_show [--message] [--discard] [--strict]: shows the service discovery payload that comes on standard input, as raw bytes, or with --message a
 // whole message; with --discard by the discard setting, with --strict by the strict one. One line begins `accepted` or `refused, NUMBER:`. bin/show
 // takes files, hex and many at once.
+#![tactic(auto)]
+
 use print::text;
 use sd_option::Settings;
 

@@ -1,6 +1,8 @@
 // Runs the rules' cases of joining segments through the public functions and the exported ones, and prints each on a
 // line: what came, the answer to it, and at the end the report. The file stdout holds what the rules say; where an exported function told
 // something else, the line says so.
+#![tactic(auto)]
+
 ghost use Rattle.std.specs.Prelude.{◌≤◌};
 
 use case_lines::exported;

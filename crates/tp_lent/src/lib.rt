@@ -1,6 +1,8 @@
 // A stream in words that the caller lends, judged and joined where they stand. A stream that was begun keeps its ranges in order, and one pass over
 // them judges the state; words that are out of order, or unfit, and segments that are refused take the way by value, `tp_stream` over `tp_words`:
 // the same answers, slower. Both ways ask the same rules, the functions of `tp_rules`.
+#![tactic(auto)]
+
 ghost use Rattle.std.specs.Prelude.{◌≡◌};
 ghost use Rattle.tp_machine.specs.Taking.{complete as complete_of};
 ghost use Rattle.tp_stream.specs.Promises.{Took};

@@ -1,5 +1,7 @@
 // Cases of joining segments on a line, for the programs that run them: what comes to a stream, here and by the exported functions, and the answer to
 // it. Where an exported function told something else, the line says so.
+#![tactic(auto)]
+
 ghost use Rattle.std.specs.Prelude.{◌+◌, ◌%◌, ◌≡◌, true, false, cond, take};
 ghost use Rattle.tp_pieces.specs.Pieces.{size as type_size, offset, bytes, numbers, Begun, CameTo, Comes, Takes};
 

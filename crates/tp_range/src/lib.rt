@@ -1,5 +1,7 @@
 // Ranges of a payload that is being joined: which touch, how far they reach, and the joining step over an array by value, of which the first
 // `count` are held. (tp_range.rs)
+#![tactic(auto)]
+
 ghost use Rattle.std.specs.Prelude.{◌≡◌, ◌≤◌, ◌<◌, min, max, take};
 ghost use Rattle.tp_machine.specs.Ranges.{touch, hull_of, inserted, some_touch, greatest_end};
 ghost use Rattle.tp_machine.specs.Machine.{most};

@@ -1,6 +1,8 @@
 // Replays what the Rust crate said to sequences of segments (the file that the first argument names; compare/FORMAT.md), and prints the first
 // record that does not agree, and how many do, by their answers. The exported functions are called, over a stream's words. After each step all is
 // compared: the answer, the ranges, the end, the report, and how many segments were accepted.
+#![tactic(auto)]
+
 use print::{line, text};
 use replay::earlier;
 use tp_words::WORDS;

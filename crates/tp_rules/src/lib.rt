@@ -1,5 +1,7 @@
 // The rules of joining that both ways to consume ask, `tp_stream` by value and `tp_lent` in lent words: each a function of what it is about, whatever
 // holds the stream.
+#![tactic(auto)]
+
 mod malformed; // malformed.rt: answer 38, of one range
 mod judging; // judging.rt: answers 31 to 34 of a segment's header, and the end that it sets
 mod writing; // writing.rt: what is written into the buffer

@@ -1,4 +1,6 @@
 // One segment: whether bytes are one (answer 30), and what its header says. (tp_header.rs)
+#![tactic(auto)]
+
 ghost use Rattle.std.specs.Prelude.{◌≡◌};
 ghost use Rattle.tp_machine.specs.Segments.{tp_type, is_segment};
 ghost use Rattle.tp_segment.specs.Reading.{segment_said, segment_refusal, reading};

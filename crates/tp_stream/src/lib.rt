@@ -1,4 +1,6 @@
 // One stream of TP segments, joined in a lent buffer. The stream's state is a value, handed in and handed back; the rules are `tp_rules`'. (tp_buf.rs)
+#![tactic(auto)]
+
 ghost use Rattle.std.specs.Prelude.{◌≡◌, length, ◌+◌, min};
 ghost use Rattle.tp_machine.specs.Machine.{last_number, fresh as fresh_of, clear as clear_of};
 ghost use Rattle.tp_machine.specs.Taking.{complete as complete_of, ready as ready_of, report as report_of};

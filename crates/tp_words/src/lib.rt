@@ -1,5 +1,7 @@
 // A stream's state as words that the caller keeps: the limit, how many ranges are held, whether an end is known (0 or 1), the end, how many
 // segments were accepted, and then for each range that can be held its start, its end and its number.
+#![tactic(auto)]
+
 ghost use Rattle.std.specs.Prelude.{◌≡◌, ◌≤◌, ◌∷◌, ◌++◌, length, take, drop};
 ghost use Rattle.tp_words.specs.Words.{size, end_of, unfit as unfit_of, outside as outside_of, held_in, stream_of, known, flat, put as put_of};
 

@@ -1,5 +1,7 @@
 // A refusal in words on standard output: the rules' number, and its values with what they are. As in `print`, no contract says what is written: the
 // logic has no word for it. The Rust crate has the same words (bindings/rust/src/refusal.rs), and a test there compares them.
+#![tactic(auto)]
+
 mod marks; // marks.rt: text with numbers in it
 
 pub use marks::told;
