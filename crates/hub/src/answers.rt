@@ -13,7 +13,7 @@ use tp_stream::RangeAnswer;
 
 // A number, and its values in order; places that it does not use hold 0.
 #[repr(C)]
-#[derive(Drop)]
+#[derive(Clone, Copy)]
 pub struct Answer {
     pub number: u64,
     pub values: [u64; PLACES],

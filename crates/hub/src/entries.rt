@@ -12,7 +12,7 @@ use sd_entry::{
 
 // One entry: the answer of its reading, and then its fields. Those that its kind has not hold 0, and so do all after a refusal.
 #[repr(C)]
-#[derive(Drop)]
+#[derive(Clone, Copy)]
 pub struct Entry {
     pub answer: Answer,
     pub code: u64,

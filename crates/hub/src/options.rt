@@ -99,7 +99,7 @@ pub extern "C" fn viaductle_next_item(string: &[u8], at: usize) -> Answer
 
 // One option: the answer of its reading, and then its fields. Those that its kind has not hold 0, and so do all after a refusal.
 #[repr(C)]
-#[derive(Drop)]
+#[derive(Clone, Copy)]
 pub struct Option {
     pub answer: Answer,
     pub code: u64,
@@ -136,7 +136,7 @@ fn no_option(answer: Answer) -> Option
 }
 
 // A part of an option: where it starts among the option's bytes, and how long it is.
-#[derive(Drop)]
+#[derive(Clone, Copy)]
 pub struct Span {
     pub at: u64,
     pub len: u64,

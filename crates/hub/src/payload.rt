@@ -69,7 +69,7 @@ pub extern "C" fn viaductle_read_message(message: &[u8], table: &mut [u16], sett
 
 // Where the two parts of a payload start, and how long they are.
 #[repr(C)]
-#[derive(Drop)]
+#[derive(Clone, Copy)]
 pub struct Places {
     pub entries_at: u64,
     pub entries_len: u64,

@@ -5,14 +5,14 @@ ghost use Rattle.refusal.specs.Said.{verdict_refusal, count_refusal};
 use crate::Refusal;
 
 // An answer of which only pass or refusal counts.
-#[derive(Drop)]
+#[derive(Clone, Copy)]
 pub enum Verdict {
     Passed,
     Refused(Refusal),
 }
 
 // An answer that is a count: of options, of bytes, up to where.
-#[derive(Drop)]
+#[derive(Clone, Copy)]
 pub enum Count {
     Good(usize),
     Refused(Refusal),

@@ -11,7 +11,7 @@ pub use places::moved;
 pub use values::{Numbers, PLACES, five, four, none, numbers_of, one, three, two};
 
 // What gave the length that an option was judged by.
-#[derive(Drop)]
+#[derive(Clone, Copy)]
 pub enum LengthSource {
     Slice,
     OptionLength,
@@ -19,7 +19,7 @@ pub enum LengthSource {
 
 // The six errors of a configuration string. `item_offset` is where the item's length byte stands in the string, `byte_offset` the place of a
 // byte among the item's own.
-#[derive(Drop)]
+#[derive(Clone, Copy)]
 pub enum StringError {
     MissingTerminator,
     ItemLengthExceedsRemaining {
@@ -45,7 +45,7 @@ pub enum StringError {
 
 // In the order of the rules' table. `place` is the byte at which an option was refused: of an option that is read alone counted from its own first
 // byte, among others from the first byte of the options, and of a string that is read alone from the string's.
-#[derive(Drop)]
+#[derive(Clone, Copy)]
 pub enum Refusal {
     UnexpectedEndOfSlice(usize),
     EntriesLengthTooLarge(u32),

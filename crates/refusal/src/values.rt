@@ -9,7 +9,7 @@ use crate::{LengthSource, Refusal, StringError};
 pub const PLACES: usize = 5;
 
 // The number; its values stand in the first `count` places, and the others hold 0.
-#[derive(Drop)]
+#[derive(Clone, Copy)]
 pub struct Numbers {
     pub number: u64,
     pub count: usize,

@@ -6,13 +6,13 @@ use crate::{ENTRY_LEN, EntryAnswer, read_entry};
 use refusal::Refusal;
 
 // The byte where the next entry starts.
-#[derive(Drop)]
+#[derive(Clone, Copy)]
 pub struct EntryCursor {
     pub at: usize,
 }
 
 // What a cursor answered, and where it stands then.
-#[derive(Drop)]
+#[derive(Clone, Copy)]
 pub struct EntryStep {
     pub answer: EntryAnswer,
     pub cursor: EntryCursor,

@@ -23,20 +23,20 @@ const INITIAL_DATA: u8 = 0x80;
 // A number of four bits is below it.
 pub(crate) const FOUR_BITS: u8 = 16;
 
-#[derive(Drop)]
+#[derive(Clone, Copy)]
 pub enum SdServiceEntryType {
     FindService,
     OfferService,
 }
 
-#[derive(Drop)]
+#[derive(Clone, Copy)]
 pub enum EventGroupEntryType {
     SubscribeOrStop,
     SubscribeAckOrNack,
 }
 
 // What every entry has after its type: two runs of options, the service, and for how long.
-#[derive(Drop)]
+#[derive(Clone, Copy)]
 pub struct EntryHead {
     pub start_index_options_1: u8,
     pub start_index_options_2: u8,
@@ -49,7 +49,7 @@ pub struct EntryHead {
 }
 
 // The last four bytes of an eventgroup entry; `reserved` and `spare` are its reserved byte and its three reserved bits, as sent.
-#[derive(Drop)]
+#[derive(Clone, Copy)]
 pub struct EventGroup {
     pub reserved: u8,
     pub initial_data_requested: bool,
@@ -58,7 +58,7 @@ pub struct EventGroup {
     pub eventgroup_id: u16,
 }
 
-#[derive(Drop)]
+#[derive(Clone, Copy)]
 pub enum SdEntry {
     Service {
         entry_type: SdServiceEntryType,
@@ -72,7 +72,7 @@ pub enum SdEntry {
     },
 }
 
-#[derive(Drop)]
+#[derive(Clone, Copy)]
 pub enum EntryAnswer {
     Good(SdEntry),
     Refused(Refusal),

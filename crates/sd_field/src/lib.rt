@@ -24,14 +24,14 @@ use sd_option::reading::{
 };
 
 // The byte after the type: the discardable bit, and its seven other bits, as sent.
-#[derive(Drop)]
+#[derive(Clone, Copy)]
 pub struct OptionFirst {
     pub discardable: bool,
     pub others: u8,
 }
 
 // An address by its words of four bytes.
-#[derive(Drop)]
+#[derive(Clone, Copy)]
 pub enum IpAddress {
     V4(u32),
     V6(u32, u32, u32, u32),
@@ -39,7 +39,7 @@ pub enum IpAddress {
 
 // A configuration option's string and an unknown option's later bytes: `option_rest`. `reserved` is the byte before the transport protocol, as
 // sent.
-#[derive(Drop)]
+#[derive(Clone, Copy)]
 pub enum SdOption {
     Configuration {
         first: OptionFirst,
@@ -64,7 +64,7 @@ pub enum SdOption {
 }
 
 // The option, and how many bytes it takes, its length and its type among them.
-#[derive(Drop)]
+#[derive(Clone, Copy)]
 pub enum FieldsAnswer {
     Good { option: SdOption, size: usize },
     Refused(Refusal),

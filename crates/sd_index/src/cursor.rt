@@ -10,13 +10,13 @@ use sd_option::Settings;
 use sd_option::reading::{OptionAnswer, read_option};
 
 // Where the next option starts.
-#[derive(Drop)]
+#[derive(Clone, Copy)]
 pub struct OptionCursor {
     pub at: Offset,
 }
 
 // What an option cursor answered, and where it stands then.
-#[derive(Drop)]
+#[derive(Clone, Copy)]
 pub struct OptionStep {
     pub answer: OptionAnswer,
     pub cursor: OptionCursor,
@@ -60,14 +60,14 @@ impl OptionCursor {
 }
 
 // The number of the run's next option, and how many of the run are left.
-#[derive(Drop)]
+#[derive(Clone, Copy)]
 pub struct RunCursor {
     pub next: Ordinal,
     pub left: usize,
 }
 
 // What a run cursor answered, and where it stands then.
-#[derive(Drop)]
+#[derive(Clone, Copy)]
 pub struct RunStep {
     pub answer: FoundAnswer,
     pub cursor: RunCursor,

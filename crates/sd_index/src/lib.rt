@@ -20,9 +20,9 @@ pub const SLOTS: usize = 347;
 pub const MAX_OPTIONS_LEN: usize = 1388;
 
 // An option's place in the count.
-#[derive(Drop)]
+#[derive(Clone, Copy)]
 pub struct Ordinal(pub usize);
 
 // An option's byte offset in the options part.
-#[derive(Drop)]
+#[derive(Clone, Copy)]
 pub struct Offset(pub usize);

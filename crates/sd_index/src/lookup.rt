@@ -9,13 +9,13 @@ use sd_option::PLAIN;
 use sd_option::reading::{OptionAnswer, OptionHead, read_option_unscanned};
 
 // An option that was found: where it starts in the options part, and what is told of it.
-#[derive(Drop)]
+#[derive(Clone, Copy)]
 pub struct Found {
     pub offset: Offset,
     pub head: OptionHead,
 }
 
-#[derive(Drop)]
+#[derive(Clone, Copy)]
 pub enum FoundAnswer {
     Good(Found),
     Refused(Refusal),

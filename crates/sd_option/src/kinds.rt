@@ -21,14 +21,14 @@ pub const IPV6_MULTICAST: u8 = 0x16;
 pub const IPV6_SD_ENDPOINT: u8 = 0x26;
 
 // The length that a kind asks of the bytes after the type.
-#[derive(Drop)]
+#[derive(Clone, Copy)]
 pub enum KindLength {
     Exactly(u16),
     OneOrMore,
 }
 
 // A row of the table.
-#[derive(Drop)]
+#[derive(Clone, Copy)]
 pub struct KindRow {
     pub code: u8,
     pub len: KindLength,
@@ -122,14 +122,14 @@ pub(crate) fn takes(code: u8, protocol: u8) -> bool
 }
 
 // Which addresses an option has.
-#[derive(Drop)]
+#[derive(Clone, Copy)]
 pub enum Family {
     Ipv4,
     Ipv6,
 }
 
 // What its address is for.
-#[derive(Drop)]
+#[derive(Clone, Copy)]
 pub enum Role {
     Endpoint,
     Multicast,
@@ -137,7 +137,7 @@ pub enum Role {
 }
 
 // The known kinds, and a type that is none of theirs.
-#[derive(Drop)]
+#[derive(Clone, Copy)]
 pub enum OptionKind {
     Configuration,
     LoadBalancing,

@@ -5,7 +5,7 @@ pub mod kinds;
 pub mod reading;
 
 // The settings of a reading.
-#[derive(Drop)]
+#[derive(Clone, Copy)]
 pub struct Settings {
     // An unknown option is accepted although it may not be discarded.
     pub discard_unknown_option: bool,

@@ -25,14 +25,14 @@ pub const STRING_START: usize = 4;
 pub const DISCARDABLE: u8 = 0x80;
 
 // What is told of an option: its type code, the discardable bit, and how many bytes it takes, its length and its type among them.
-#[derive(Drop)]
+#[derive(Clone, Copy)]
 pub struct OptionHead {
     pub code: u8,
     pub discardable: bool,
     pub size: usize,
 }
 
-#[derive(Drop)]
+#[derive(Clone, Copy)]
 pub enum OptionAnswer {
     Good(OptionHead),
     Refused(Refusal),

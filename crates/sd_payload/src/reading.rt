@@ -21,7 +21,7 @@ pub const UNICAST: u8 = 0x40;
 
 pub const EXPLICIT_INITIAL_DATA_CONTROL: u8 = 0x20;
 
-#[derive(Drop)]
+#[derive(Clone, Copy)]
 pub struct SdHeaderFlags {
     pub reboot: bool,
     pub unicast: bool,
@@ -29,14 +29,14 @@ pub struct SdHeaderFlags {
 }
 
 // What an accepted payload has: its flags, and how many entries and options.
-#[derive(Drop)]
+#[derive(Clone, Copy)]
 pub struct SdPayload {
     pub flags: SdHeaderFlags,
     pub entries: usize,
     pub options: usize,
 }
 
-#[derive(Drop)]
+#[derive(Clone, Copy)]
 pub enum PayloadAnswer {
     Good(SdPayload),
     Refused(Refusal),

@@ -46,7 +46,7 @@ fn behind(at: u64, size: u64) -> usize {
 }
 
 // How many options a run has, and the sum of what was told of them.
-#[derive(Drop)]
+#[derive(Clone, Copy)]
 pub(crate) struct RunSum {
     pub(crate) options: u64,
     pub(crate) sum: u32,

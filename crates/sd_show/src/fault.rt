@@ -16,7 +16,7 @@ const BEFORE: usize = 16;
 const BEHIND: usize = 15;
 
 // A place among the options; refusals 7 to 10 and 23 tell one.
-#[derive(Drop)]
+#[derive(Clone, Copy)]
 enum Place {
     At(usize),
     Untold,

@@ -11,7 +11,7 @@ mod header; // header.rt: a message's header
 mod payload; // payload.rt: a whole payload or message
 
 // What is asked by the words that the program is started with.
-#[derive(Drop)]
+#[derive(Clone, Copy)]
 struct Asked {
     message: bool,
     discard: bool,

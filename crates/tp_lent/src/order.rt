@@ -9,7 +9,7 @@ use crate::ranges::range_at;
 use tp_range::MAX_RANGES;
 
 // What one pass tells: whether the ranges are in order and none is bad; and then how many end before `start`, and how many begin at `end` or before.
-#[derive(Drop)]
+#[derive(Clone, Copy)]
 pub(crate) struct Found {
     pub(crate) fine: bool,
     pub(crate) before: usize,

@@ -15,7 +15,7 @@ use tp_range::{MAX_RANGES, UNUSED};
 use tp_segment::{SegmentAnswer, TpHeader};
 
 // Whether a segment is accepted at once. If so, its range, whether more follows, how many ranges stand before it and how many up to its end.
-#[derive(Drop)]
+#[derive(Clone, Copy)]
 pub(crate) struct Plan {
     pub(crate) accepts: bool,
     pub(crate) new: TpRange,

@@ -2,7 +2,7 @@
 #![tactic(auto)]
 
 // The payload's bytes from `start` up to `end` (not included). `number` is that of the latest accepted segment in it: the first one's is 1.
-#[derive(Drop)]
+#[derive(Clone, Copy)]
 pub struct TpRange {
     pub start: u32,
     pub end: u32,
@@ -10,7 +10,7 @@ pub struct TpRange {
 }
 
 // Where the whole payload ends: told by a final segment.
-#[derive(Drop)]
+#[derive(Clone, Copy)]
 pub enum TpEnd {
     Unknown,
     Known(u32),

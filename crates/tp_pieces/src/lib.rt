@@ -24,7 +24,7 @@ const FRAME: [u8; 36] = *b"\
     \x07\x07\x07\x07\x07\x07\x07\x07\x07\x07\x07\x07\x07\x07\x07\x07";
 
 // A segment's payload: where it goes, how long it is (at most 16), whether more follow.
-#[derive(Drop)]
+#[derive(Clone, Copy)]
 pub struct Piece {
     pub offset: u16,
     pub length: u8,
@@ -104,7 +104,7 @@ pub fn said_of(verdict: Verdict) -> Numbers
 }
 
 // What is said of a segment that came, here and by the exported function, and the stream after it.
-#[derive(Drop)]
+#[derive(Clone, Copy)]
 pub struct Came {
     pub said: Numbers,
     pub told: Answer,

@@ -22,7 +22,7 @@ pub const UNUSED: TpRange = TpRange {
 };
 
 // What joining gives: the new array and how many it holds; or, where they would be too many, all as it was.
-#[derive(Drop)]
+#[derive(Clone, Copy)]
 pub struct Joined {
     pub full: bool,
     pub ranges: [TpRange; MAX_RANGES],

@@ -14,7 +14,7 @@ pub const HEADER_LEN: usize = 16;
 pub const SEGMENT_HEADER_LEN: usize = 20;
 
 // Where a segment's payload goes, whether more follows, and how long the payload is.
-#[derive(Drop)]
+#[derive(Clone, Copy)]
 pub struct TpHeader {
     pub offset: u32,
     pub more: bool,
@@ -22,7 +22,7 @@ pub struct TpHeader {
 }
 
 // What reading a segment answers.
-#[derive(Drop)]
+#[derive(Clone, Copy)]
 pub enum SegmentAnswer {
     Good(TpHeader),
     Refused(Refusal),

@@ -25,7 +25,7 @@ pub const LAST_NUMBER: u32 = 4294967295;
 
 // A stream's state: the payload limit, the ranges held (the first `count` places), the end, where it is known, and how many segments were
 // accepted since it was begun or cleared.
-#[derive(Drop)]
+#[derive(Clone, Copy)]
 pub struct TpStream {
     pub limit: u32,
     pub ranges: [TpRange; MAX_RANGES],
@@ -35,7 +35,7 @@ pub struct TpStream {
 }
 
 // What a call gives back: its answer, and the state after it.
-#[derive(Drop)]
+#[derive(Clone, Copy)]
 pub struct TpStep {
     pub answer: Verdict,
     pub stream: TpStream,

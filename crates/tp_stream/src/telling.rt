@@ -12,7 +12,7 @@ use tp_machine::TpRange;
 use tp_range::{MAX_RANGES, UNUSED};
 
 // A range, or why there is none.
-#[derive(Drop)]
+#[derive(Clone, Copy)]
 pub enum RangeAnswer {
     Good(TpRange),
     Refused(Refusal),

@@ -1,0 +1,29 @@
+-- `config_string::item_part` meets its contract: the item lies between the place and where the cursor stands afterwards. Assumes nothing.
+use mathlib.Core.Path.{sym, ap, ◌∙◌}
+use native.Mathlib.Omega.{arith}
+use borrow.Author.Rules.{rules}
+use Rattle.numbers.specs.Answers.{part}
+use Rattle.numbers.proofs.AnswerLaws.{given_refused}
+use Rattle.refusal.specs.Said.{count_said}
+use Rattle.config_string.proofs.ItemLaws.{Found, found}
+use Rattle.config_string.proofs.item_part.Goals as goal
+use Rattle.config_string.proofs.item_part.Goals.{In-Good}
+
+-- the item that was found
+item : (c : In-Good)
+    → Found c.args.s.now c.args.at c.answer-1.given.0.0
+item c =
+    found c.args.s.now c.args.at _ (sym c.next_item-answer.ensures ∙ ap count_said c.answer-1.given.1)
+
+pub returns-in_default : goal.returns-in_default
+returns-in_default c =
+    sym (ap part (given_refused _ _ _ (sym c.next_item-answer.ensures ∙ ap count_said c.enum_told-1.given.1)))
+
+pub overflow_add-start : goal.overflow_add-start
+overflow_add-start c = let here = item c in omega arith
+
+pub slice_bounds-result-count : goal.slice_bounds-result-count
+slice_bounds-result-count c = let here = item c in omega arith
+
+pub returns : goal.returns
+returns c = sym (ap part (item c).bytes)

@@ -1,0 +1,17 @@
+-- `answers::range_answer` meets its contract: each arm is told which case it has. Assumes nothing.
+use Rattle.hub.proofs.Arms.{arm}
+use Rattle.hub.proofs.ToldLaws.{rowed}
+use Rattle.numbers.specs.Refusals.{refusal}
+use Rattle.tp_stream.specs.declared.telling.RangeAnswer.{RangeAnswer}
+use Rattle.tp_stream.specs.Telling.{range_said}
+use Rattle.hub.specs.Answers.{told, range_values}
+use borrow.Author.Rules.{rules}
+use Rattle.hub.proofs.answers.range_answer.Goals as goal
+
+pub returns-in-Good : goal.returns-in-Good
+returns-in-Good c =
+    let given = c.answer-1.given in
+    arm (λ (a : RangeAnswer). told range_values (range_said a)) (rowed (refusal 0 (range_values given.0.0)) c.three.ensures c.answer_of.ensures) given.1
+
+pub returns-in-Refused : goal.returns-in-Refused
+returns-in-Refused c = arm (λ (a : RangeAnswer). told range_values (range_said a)) c.refused.ensures c.answer-in-Refused-1.given.1

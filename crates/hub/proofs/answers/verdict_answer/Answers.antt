@@ -1,0 +1,13 @@
+-- `answers::verdict_answer` meets its contract: each arm is told which case it has. Assumes nothing.
+use Rattle.hub.proofs.Arms.{arm}
+use Rattle.refusal.specs.declared.answers.Verdict.{Verdict}
+use Rattle.refusal.specs.Said.{verdict_said}
+use Rattle.hub.specs.Answers.{told, no_values}
+use borrow.Author.Rules.{rules}
+use Rattle.hub.proofs.answers.verdict_answer.Goals as goal
+
+pub returns-in-Passed : goal.returns-in-Passed
+returns-in-Passed c = arm (λ (v : Verdict). told no_values (verdict_said v)) c.accepted.ensures c.enum_told-1.given.1
+
+pub returns-in-Refused : goal.returns-in-Refused
+returns-in-Refused c = arm (λ (v : Verdict). told no_values (verdict_said v)) c.refused.ensures c.verdict-1.given.1

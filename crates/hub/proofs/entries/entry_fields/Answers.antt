@@ -1,0 +1,13 @@
+-- `entries::entry_fields` meets its contract: each arm is told which case it has. Assumes nothing.
+use borrow.Author.Rules.{rules}
+use Rattle.sd_entry.specs.declared.SdEntry.{SdEntry}
+use Rattle.sd_entry.specs.Said.{entry_said}
+use Rattle.hub.specs.Entries.{entry_fields}
+use Rattle.hub.proofs.Arms.{arm}
+use Rattle.hub.proofs.entries.entry_fields.Goals as goal
+
+pub returns-in-Service : goal.returns-in-Service
+returns-in-Service c = arm (λ (a : SdEntry). entry_fields (entry_said a)) c.service_fields.ensures c.entry-1.given.1
+
+pub returns-in-Eventgroup : goal.returns-in-Eventgroup
+returns-in-Eventgroup c = arm (λ (a : SdEntry). entry_fields (entry_said a)) c.eventgroup_fields.ensures c.entry-in-Eventgroup-1.given.1

@@ -1,0 +1,9 @@
+-- `entries::fields_of` meets its contract. Assumes nothing.
+use borrow.Author.Rules.{rules}
+use Rattle.hub.proofs.FieldLaws.{fields_made}
+use Rattle.hub.proofs.entries.fields_of.Goals as goal
+
+pub returns : goal.returns
+returns c =
+    let a = c.args in
+    fields_made _ a.head _ a.group _ _ c.accepted.ensures c.bit.ensures

@@ -1,0 +1,16 @@
+-- `options::viaductle_next_option` meets its contract. Assumes nothing.
+use mathlib.Core.Path.{ap, ◌∙◌}
+use borrow.Author.Rules.{rules}
+use Rattle.sd_format.specs.Settings.{Settings}
+use Rattle.sd_format.specs.Frames.{next_option}
+use Rattle.hub.specs.Answers.{told, head_values, option_values}
+use Rattle.hub.proofs.ToldLaws.{headed_told}
+use Rattle.hub.proofs.options.viaductle_next_option.Goals as goal
+
+pub returns : goal.returns
+returns c =
+    let args = c.args in
+    c.option_answer.ensures
+    ∙ ap (told (head_values _)) c.next-step.ensures.answer
+    ∙ headed_told _ _
+    ∙ ap (λ (g : Settings). told (option_values args.at) (next_option g args.options.now args.at)) c.settings_of.ensures

@@ -1,0 +1,32 @@
+-- `payload::viaductle_parts` meets its contract. Assumes nothing.
+use mathlib.Core.Path.{◌≡◌, sym, ap, ◌∙◌}
+use native.Mathlib.Omega.{arith}
+use Rattle.refusal.specs.declared.answers.Count.{Count}
+use Rattle.refusal.specs.Said.{count_said}
+use Rattle.sd_payload.specs.Sized.{sized}
+use Rattle.sd_payload.proofs.SizeLaws.{parts}
+use Rattle.hub.proofs.PlaceLaws.{none_after_refusal, none_of_bad_sizes, placed_there}
+use borrow.Author.Rules.{rules}
+use Rattle.hub.proofs.payload.viaductle_parts.Goals as goal
+use Rattle.hub.proofs.payload.viaductle_parts.Goals.{After-judge_sizes-sizes}
+
+-- what the sizes are found to be
+judged : (c : After-judge_sizes-sizes) {here : Count} → c.judge_sizes-sizes.result ≡ here → sized c.args.payload.now ≡ count_said here
+judged c same = sym (ap count_said (sym same) ∙ c.judge_sizes-sizes.ensures)
+
+pub returns-then-answer-ne0 : goal.returns-then-answer-ne0
+returns-then-answer-ne0 c = c.nowhere.ensures ∙ none_after_refusal _ _ c.if-answer-ne0.true
+
+pub returns-in_default : goal.returns-in_default
+returns-in_default c =
+    c.nowhere-in_default.ensures ∙ none_of_bad_sizes _ _ _ c.if-answer-ne0.false (judged c c.enum_told-1.given.1)
+
+pub overflow_add-from : goal.overflow_add-from
+overflow_add-from c = omega (arith, parts _ _ (judged c c.sizes-1.given.1))
+
+pub overflow_sub-result : goal.overflow_sub-result
+overflow_sub-result c = omega (arith, parts _ _ (judged c c.sizes-1.given.1))
+
+pub returns : goal.returns
+returns c =
+    placed_there _ _ _ c.if-answer-ne0.false (judged c c.sizes-1.given.1)

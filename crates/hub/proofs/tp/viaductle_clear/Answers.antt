@@ -1,0 +1,8 @@
+-- `tp::viaductle_clear` meets its contract. Assumes nothing.
+use Rattle.hub.proofs.TpLaws.{clears}
+use borrow.Author.Rules.{rules}
+use Rattle.hub.proofs.tp.viaductle_clear.Goals as goal
+
+pub returns : goal.returns
+returns c =
+    clears c.args.words.now _ _ c.clear.ensures _ c.verdict_answer.ensures

@@ -1,0 +1,13 @@
+-- `replay::record::check` meets its contract.
+-- Assumes nothing.
+use mathlib.Core.Path.{ap₂, ◌∙◌}
+use Prim.Native.Nat.{ℕ, ◌+◌}
+use Rattle.replay.specs.Records.{word_of}
+use borrow.Author.Rules.{rules}
+use Rattle.replay.proofs.record.check.Goals as goal
+
+pub returns : goal.returns
+returns c =
+    let a = c.args in
+    c.word.ensures
+    ∙ ap₂ {C = ℕ} (λ m n. word_of a.s.now (m + n + a.place)) c.byte.ensures c.byte-2.ensures

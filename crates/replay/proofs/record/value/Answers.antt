@@ -1,0 +1,18 @@
+-- `replay::record::value` meets its contract. Assumes nothing.
+use mathlib.Core.Path.{ap, ◌∙◌}
+use Prim.Native.Nat.{ℕ, ◌+◌}
+use native.Mathlib.Omega.{arith}
+use Rattle.replay.specs.Records.{word_of}
+use Rattle.replay.proofs.Laws.{value_there, value_past}
+use borrow.Author.Rules.{rules}
+use Rattle.replay.proofs.record.value.Goals as goal
+
+pub returns-then-place-byte : goal.returns-then-place-byte
+returns-then-place-byte c =
+    let a = c.args in
+    c.word.ensures
+    ∙ ap (λ (n : ℕ). word_of a.s.now (n + a.place)) c.byte-then-place-byte.ensures
+    ∙ value_there a.s.now a.place (omega arith)
+
+pub returns : goal.returns
+returns c = value_past c.args.s.now c.args.place (omega arith)

@@ -1,0 +1,21 @@
+-- `sd_entry::runs::judge_entry` meets its contract: the length, the type by its ranges, then the runs. Assumes nothing.
+use mathlib.Core.Path.{sym, ◌∙◌}
+use mathlib.Core.Logic.{inl, inr, ⊎_elim}
+use native.Mathlib.Omega.{arith}
+use borrow.Author.Rules.{rules}
+use Rattle.sd_entry.proofs.Laws.{read_short, read_unknown, placed_refused, placed_known}
+use Rattle.sd_entry.proofs.runs.judge_entry.Goals as goal
+
+pub returns-then-s-lt-ENTRY_LEN : goal.returns-then-s-lt-ENTRY_LEN
+returns-then-s-lt-ENTRY_LEN c = sym (placed_refused _ _ _ (read_short _ c.if-s-lt-ENTRY_LEN.true))
+
+pub returns-in_default : goal.returns-in_default
+returns-in_default c = sym (placed_refused _ _ _ (read_unknown _ c.if-s-lt-ENTRY_LEN.false (omega arith) (inl c.if-code-lt6.true)))
+
+pub returns-in_default-2 : goal.returns-in_default-2
+returns-in_default-2 c = sym (placed_refused _ _ _ (read_unknown _ c.if-s-lt-ENTRY_LEN.false (omega arith) (inr c.if-code-lt8.false)))
+
+pub returns-in-0-to-1 : goal.returns-in-0-to-1
+returns-in-0-to-1 c =
+    c.judge_runs.ensures
+    ∙ sym (placed_known _ _ c.if-s-lt-ENTRY_LEN.false (⊎_elim (λ w. inl (omega arith)) (λ w. inr (omega arith, omega arith)) c.in-0-to-1-1.branch))

@@ -1,0 +1,114 @@
+-- `reading::sweep` meets its contract. The invariant: the options read so far stand before those that are read later, and their offsets in front of
+-- the table. The measure is what is left of the bytes. Assumes nothing.
+use Prim.Native.Nat.{ℕ, ◌+◌, ◌-◌}
+use mathlib.Core.Path.{◌≡◌, refl, sym, ap, ◌∙◌}
+use mathlib.Core.List.{List}
+use native.Mathlib.Omega.{arith}
+use borrow.Author.Rules.{rules}
+use lib.ListN.{length, drop}
+use Rattle.numbers.specs.Refusals.{moved}
+use Rattle.numbers.specs.Answers.{refused, given}
+use Rattle.numbers.proofs.AnswerLaws.{moved_twice}
+use Rattle.sd_format.specs.Settings.{Settings}
+use Rattle.sd_format.specs.Kinds.{kind_of, judge_content}
+use Rattle.sd_format.specs.Frames.{one_option}
+use Rattle.refusal.specs.declared.Refusal.{Refusal}
+use Rattle.refusal.specs.Said.{said, verdict_said, verdict_refusal, moved_capped}
+use Rattle.sd_option.specs.Settings.{settings_said}
+use Rattle.sd_option.specs.Reading.{head_of, option_said, option_refusal, behind_type, protocol_verdict, string_verdict}
+use Rattle.sd_option.proofs.ReadingLaws.{Found, found, not_found, refused_before, string_refused, string_passed}
+use Rattle.sd_index.proofs.Turns.{Turn, turn_starts, bad_stays, good_asks, turn_stops, turn_within, turn_goes, turn_refuses, turn_ends}
+use Rattle.sd_index.proofs.reading.sweep.Goals as goal
+use Rattle.sd_index.proofs.reading.sweep.Goals.{After-read_option_unscanned-answer, After-scan-string, At-loop-at, In-Good, In-Passed}
+
+-- ---- the option at the place
+
+-- the bytes from there on
+abbrev rest : At-loop-at → List ℕ
+rest c = drop c.loop-at.at.0 c.args.options.now
+
+-- under these settings
+abbrev setting : At-loop-at → Settings
+setting c = settings_said c.args.settings
+
+told : (c : After-read_option_unscanned-answer)
+    → option_said c.read_option_unscanned-answer.result ≡ given head_of (one_option (protocol_verdict (setting c)) (rest c))
+told c = c.read_option_unscanned-answer.ensures ∙ ap (λ (b : List ℕ). given head_of (one_option (protocol_verdict (setting c)) b)) c.option_at-rest.ensures
+
+-- but for its string
+here : (c : In-Good)
+    → Found (protocol_verdict (setting c)) (rest c) c.answer-1.given.0.0
+here c = found (protocol_verdict _) _ _ (told c) _ c.answer-1.given.1
+
+string_told : (c : After-scan-string)
+    → verdict_said c.scan-string.result
+    ≡ string_verdict (kind_of c.answer-1.given.0.0.code) (behind_type (rest c) c.answer-1.given.0.0.size)
+string_told c =
+    let head = c.answer-1.given.0.0 in
+    c.scan-string.ensures ∙ ap (λ (b : List ℕ). string_verdict (kind_of head.code) (behind_type b head.size)) c.option_at-rest.ensures
+
+-- with its string
+whole : (c : In-Passed)
+    → Found (judge_content (setting c)) (rest c) c.answer-1.given.0.0
+whole c =string_passed _ _ _ (here c) _ (string_told c) c.enum_told-in-Passed-1.given.1
+
+pub loop-at-init : goal.loop-at-init
+loop-at-init c = turn_starts _ _ _
+
+pub returns-in_default : goal.returns-in_default
+returns-in_default c =
+    let at : ℕ = c.loop-at.at.0 in
+    let why = c.enum_told-1.given in
+    let r = said why.0.0 in
+    turn_stops c.loop-at.invariant c.loop-at-test.true r r at (refused_before _ _ _ (not_found (protocol_verdict _) _ _ (told c) _ why.1)) refl (omega arith)
+    c.moved.result (c.moved.ensures ∙ ap (λ (x : Refusal). moved_capped at (said x)) (c.refusal.ensures ∙ ap option_refusal why.1))
+
+pub returns-in_default-string : goal.returns-in_default-string
+returns-in_default-string c =
+    let at : ℕ = c.loop-at.at.0 in
+    let why = c.enum_told-in_default-string-1.given in
+    let r = said why.0.0 in
+    turn_stops c.loop-at.invariant c.loop-at-test.true (moved 4 r) r (at + 4) (string_refused _ _ _ (here c) _ (string_told c) _ why.1)
+    (sym (moved_twice at 4 r)) (omega arith)
+    c.moved-in_default-string.result (c.moved-in_default-string.ensures ∙ ap (λ (x : Refusal). moved_capped (at + 4) (said x)) (c.refusal-in_default-string.ensures ∙ ap verdict_refusal why.1))
+
+pub overflow_add-at-in-loop-at : goal.overflow_add-at-in-loop-at
+overflow_add-at-in-loop-at c =
+    omega (arith, turn_within c.loop-at.invariant c.loop-at-test.true _ (whole c))
+
+pub loop-at-smaller-in_default-permission : goal.loop-at-smaller-in_default-permission
+loop-at-smaller-in_default-permission c = let t = whole c in omega arith
+
+-- an earlier option may not stand
+pub loop-at-preserved-in_default-permission : goal.loop-at-preserved-in_default-permission
+loop-at-preserved-in_default-permission c =
+    turn_goes c.loop-at.invariant c.loop-at-test.true _ (whole c) (omega arith) (omega arith) _ c.write_slot.ensures _
+    (bad_stays _ (ap verdict_said c.enum_told-in_default-permission-1.given.1))
+
+pub loop-at-smaller-in_default-verdict : goal.loop-at-smaller-in_default-verdict
+loop-at-smaller-in_default-verdict c = let t = whole c in omega arith
+
+-- all may stand so far, and so may this one
+pub loop-at-preserved-in_default-verdict : goal.loop-at-preserved-in_default-verdict
+loop-at-preserved-in_default-verdict c =
+    let still = ap verdict_said c.enum_told-in-Passed-permission-1.given.1 in
+    turn_goes c.loop-at.invariant c.loop-at-test.true _ (whole c) (omega arith) (omega arith) _ c.write_slot.ensures _
+    (good_asks still (still ∙ sym (ap verdict_said c.enum_told-in_default-verdict-1.given.1) ∙ c.permission_of-verdict.ensures))
+
+pub loop-at-smaller : goal.loop-at-smaller
+loop-at-smaller c = let t = whole c in omega arith
+
+-- all may stand so far, and this one may not
+pub loop-at-preserved : goal.loop-at-preserved
+loop-at-preserved c =
+    turn_goes c.loop-at.invariant c.loop-at-test.true _ (whole c) (omega arith) (omega arith) _ c.write_slot.ensures _
+    (good_asks (ap verdict_said c.enum_told-in-Passed-permission-1.given.1) c.permission_of-verdict.ensures)
+
+pub returns-in_default-permission-2 : goal.returns-in_default-permission-2
+returns-in_default-permission-2 c =
+    turn_refuses c.loop-at.invariant c.loop-at-test.false c.refusal-in_default-permission-2.result
+    (ap verdict_said c.enum_told-in_default-permission-2-1.given.1 ∙ ap (λ (r : Refusal). refused (said r)) (sym (c.refusal-in_default-permission-2.ensures ∙ ap verdict_refusal c.enum_told-in_default-permission-2-1.given.1)))
+
+pub returns : goal.returns
+returns c =
+    turn_ends c.loop-at.invariant c.loop-at-test.false (ap verdict_said c.enum_told-in-Passed-permission-2-1.given.1)

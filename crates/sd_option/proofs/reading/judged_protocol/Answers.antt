@@ -1,0 +1,33 @@
+-- `reading::judged_protocol` meets its contract: no protocol, the setting off, a protocol that is taken, and one that is not. Assumes nothing.
+use mathlib.Core.Path.{◌≡◌, sym, ap, ◌∙◌}
+use mathlib.Core.Bool.{Bool, true, false, not, not-not}
+use borrow.Author.Rules.{rules}
+use Rattle.sd_option.specs.Settings.{settings_said}
+use Rattle.sd_option.proofs.ReadingLaws.{carried_none, carried_off, carried_taken, carried_not}
+use Rattle.sd_option.proofs.reading.judged_protocol.Goals as goal
+
+-- by a test of its opposite
+opposite : (b c : Bool) → not b ≡ c → b ≡ not c
+opposite b c e = sym (not-not b) ∙ ap not e
+
+pub returns-then-not-present : goal.returns-then-not-present
+returns-then-not-present c =
+    let args = c.args in
+    carried_none (settings_said args.settings) args.code _ _ args.present (opposite _ true c.if-not-present.true)
+
+pub returns-then-not-settings : goal.returns-then-not-settings
+returns-then-not-settings c =
+    let args = c.args in
+    carried_off (settings_said args.settings) args.code _ _ args.present (opposite _ false c.if-not-present.false) (opposite _ true c.if-not-settings.true)
+
+pub returns-then-takes : goal.returns-then-takes
+returns-then-takes c =
+    let args = c.args in
+    carried_taken (settings_said args.settings) args.code _ _ args.present (opposite _ false c.if-not-present.false) (opposite _ false c.if-not-settings.false)
+    (sym c.takes.ensures ∙ c.if-takes.true)
+
+pub returns : goal.returns
+returns c =
+    let args = c.args in
+    carried_not (settings_said args.settings) args.code _ _ args.present (opposite _ false c.if-not-present.false) (opposite _ false c.if-not-settings.false)
+    (sym c.takes.ensures ∙ c.if-takes.false)

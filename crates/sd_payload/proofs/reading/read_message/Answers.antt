@@ -1,0 +1,34 @@
+-- `reading::read_message` meets its contract: too few slots, a refused header, or the payload behind it. Assumes nothing.
+use mathlib.Core.Path.{◌≡◌, sym, ap, ◌∙◌, subst}
+use native.Mathlib.Omega.{arith}
+use borrow.Author.Rules.{rules}
+use Rattle.numbers.specs.Answers.{Answer, refused, pass}
+use Rattle.numbers.proofs.ByteLaws.{take_rest}
+use Rattle.sd_format.specs.Payload.{Reading, read_payload, header}
+use Rattle.refusal.specs.declared.Refusal.{Refusal}
+use Rattle.refusal.specs.Said.{said, verdict_said, verdict_refusal}
+use Rattle.sd_option.specs.Settings.{settings_said}
+use Rattle.sd_payload.specs.Reads.{PayloadRead}
+use Rattle.sd_payload.proofs.ReadLaws.{read_few_slots, read_refused}
+use Rattle.sd_payload.proofs.HeaderLaws.{header_refuses, header_passes, header_long}
+use Rattle.sd_payload.proofs.reading.read_message.Goals as goal
+
+pub returns-then-table-lt-SLOTS : goal.returns-then-table-lt-SLOTS
+returns-then-table-lt-SLOTS c = read_few_slots _ _ c.if-table-lt-SLOTS.true
+
+pub returns-in_default : goal.returns-in_default
+returns-in_default c =
+    let told = c.enum_told-in_default-1.given.1 in
+    read_refused _ _ _ c.if-table-lt-SLOTS.false c.refusal.result
+    (header_refuses _ _ _ (sym c.judge_header-verdict.ensures ∙ ap verdict_said told) ∙ ap (λ (r : Refusal). refused (said r)) (sym (c.refusal.ensures ∙ ap verdict_refusal told)))
+    c.clear_slots.ensures
+
+pub slice_bounds-read_payload-count : goal.slice_bounds-read_payload-count
+slice_bounds-read_payload-count c = omega (arith, header_long _ (let passed : header c.args.message.now ≡ pass = sym c.judge_header-verdict.ensures ∙ ap verdict_said c.enum_told-1.given.1 in passed))
+
+pub returns : goal.returns
+returns c =
+    let a = c.args in
+    subst (λ (x : Answer Reading). PayloadRead x a.table.now c.read_payload.new.1.1.0 c.read_payload.result)
+    (ap (read_payload (settings_said a.settings)) (take_rest a.message.now 16) ∙ sym (header_passes (settings_said a.settings) a.message.now (let passed : header c.args.message.now ≡ pass = sym c.judge_header-verdict.ensures ∙ ap verdict_said c.enum_told-1.given.1 in passed)))
+    c.read_payload.ensures

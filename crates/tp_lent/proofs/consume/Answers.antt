@@ -1,0 +1,12 @@
+-- `tp_lent::consume` meets its contract: what is planned is what the machine accepts, and all else is done by value. Assumes nothing.
+use Rattle.tp_lent.proofs.CallLaws.{joined_in_place}
+use borrow.Author.Rules.{rules}
+use Rattle.tp_lent.proofs.consume.Goals as goal
+
+pub carry_out-requires : goal.carry_out-requires
+carry_out-requires c =c.plan_of-plan.ensures c.if-plan.true
+
+pub returns-then-plan : goal.returns-then-plan
+returns-then-plan c =
+    let a = c.args in
+    joined_in_place a.words.now a.seg.now a.buf.now c.plan_of-plan.result (c.plan_of-plan.ensures c.if-plan.true) _ _ c.carry_out.ensures

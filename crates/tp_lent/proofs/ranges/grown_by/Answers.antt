@@ -1,0 +1,20 @@
+-- `tp_lent::ranges::grown_by` meets its contract. Assumes nothing.
+use Prim.Native.Nat.{min, max}
+use mathlib.Core.Path.{ap, ◌∙◌}
+use borrow.Author.Tests.{eq-eqb, ne_eqb}
+use Rattle.tp_machine.specs.declared.TpRange.{TpRange}
+use borrow.Author.Rules.{rules}
+use Rattle.tp_lent.proofs.ranges.grown_by.Goals as goal
+
+pub returns-then-before-behind : goal.returns-then-before-behind
+returns-then-before-behind c = rw (eq-eqb _ _ c.if-before-behind.taken)
+
+pub returns : goal.returns
+returns c =
+    let a = c.args in
+    rw (ne_eqb _ _ c.if-before-behind.left)
+    (λ i. record {
+      start = (c.least.ensures ∙ ap (λ (r : TpRange). min r.start a.new.start) c.range_at-first.ensures) i;
+      end = (c.greatest.ensures ∙ ap (λ (r : TpRange). max r.end a.new.end) c.range_at-last.ensures) i;
+      number = a.new.number;
+    })

@@ -1,0 +1,26 @@
+-- `tp_range::in_order` meets its contract: whether all are in order is whether those that are left are. Assumes nothing.
+use Prim.Native.Nat.{◌-◌, ◌≤◌}
+use mathlib.Core.Path.{◌≡◌, refl, sym, ◌∙◌}
+use borrow.Author.Rules.{rules}
+use native.Mathlib.Omega.{arith}
+use borrow.Author.Tests.{lt-ltb, le-ltb}
+use lib.ListN.{length, take, drop}
+use Rattle.tp_machine.specs.Machine.{most}
+use Rattle.tp_range.specs.Ordered.{rising, backward}
+use Rattle.tp_range.proofs.OrderLaws.{rising_low, rising_bad, rising_next, rising_done}
+use Rattle.tp_range.proofs.in_order.Goals as goal
+
+pub returns-then-r-low : goal.returns-then-r-low
+returns-then-r-low c =
+    sym (c.loop-i.invariant ∙ rising_low backward c.args.t1 c.loop-i.i c.args.count c.loop-i-test.true (let fits : c.args.count ≤ length c.args.t1 = omega (arith, c.requires, (let long : length c.args.t1 ≡ most = search rules in long)) in fits) _ refl c.loop-i.low c.if-r-low.true)
+
+pub returns-then-r : goal.returns-then-r
+returns-then-r c =
+    sym (c.loop-i.invariant ∙ rising_bad backward c.args.t1 c.loop-i.i c.args.count c.loop-i-test.true (let fits : c.args.count ≤ length c.args.t1 = omega (arith, c.requires, (let long : length c.args.t1 ≡ most = search rules in long)) in fits) _ refl c.loop-i.low c.if-r-low.false (lt-ltb _ _ c.if-r.true))
+
+pub loop-i-preserved : goal.loop-i-preserved
+loop-i-preserved c =
+    c.loop-i.invariant ∙ rising_next backward c.args.t1 c.loop-i.i c.args.count c.loop-i-test.true (let fits : c.args.count ≤ length c.args.t1 = omega (arith, c.requires, (let long : length c.args.t1 ≡ most = search rules in long)) in fits) _ refl c.loop-i.low c.if-r-low.false (le-ltb _ _ c.if-r.false)
+
+pub returns : goal.returns
+returns c = let a = c.args in sym (c.loop-i.invariant ∙ rising_done backward c.loop-i.low a.t1 c.loop-i.i a.count c.loop-i-test.false)

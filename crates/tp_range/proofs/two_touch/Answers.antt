@@ -1,0 +1,29 @@
+-- `tp_range::two_touch` meets its contract: those passed touch none behind them, so the answer for all is the answer for the rest. Assumes nothing.
+use Prim.Native.Nat.{◌-◌, ◌≤◌}
+use mathlib.Core.Path.{◌≡◌, refl, sym, ◌∙◌}
+use borrow.Author.Rules.{rules}
+use native.Mathlib.Omega.{arith}
+use lib.ListN.{length, take, drop}
+use Rattle.tp_machine.specs.Machine.{most}
+use Rattle.tp_machine.specs.Ranges.{any, touch, some_touch}
+use Rattle.tp_range.specs.Joining.{none}
+use Rattle.tp_range.proofs.Laws.{any_hit, any_miss, any_end, touch_hit, touch_miss, touch_end}
+use Rattle.tp_range.proofs.two_touch.Goals as goal
+
+pub loop-i-preserved : goal.loop-i-preserved
+loop-i-preserved c =
+    touch_miss _ _ _ none c.loop-i-test.true (let fits : c.args.count ≤ length c.args.t1 = omega (arith, c.requires, (let long : length c.args.t1 ≡ most = search rules in long) c) in fits) (sym c.loop-j.invariant ∙ any_end _ _ _ _ c.loop-j-test.false)
+    ∙ c.loop-i.invariant
+
+pub returns-then-touches : goal.returns-then-touches
+returns-then-touches c =
+    let one = sym c.loop-j.invariant ∙ any_hit _ _ _ none c.loop-j-test.true (let fits : c.args.count ≤ length c.args.t1 = omega (arith, c.requires, (let long : length c.args.t1 ≡ most = search rules in long) c) in fits) _ (sym c.touches.ensures ∙ c.if-touches.true) in
+    sym (touch_hit _ _ _ none c.loop-i-test.true (let fits : c.args.count ≤ length c.args.t1 = omega (arith, c.requires, (let long : length c.args.t1 ≡ most = search rules in long) c) in fits) one) ∙ c.loop-i.invariant
+
+pub loop-j-preserved : goal.loop-j-preserved
+loop-j-preserved c =
+    any_miss _ _ _ none c.loop-j-test.true (let fits : c.args.count ≤ length c.args.t1 = omega (arith, c.requires, (let long : length c.args.t1 ≡ most = search rules in long) c) in fits) _ (sym c.touches.ensures ∙ c.if-touches.false)
+    ∙ c.loop-j.invariant
+
+pub returns : goal.returns
+returns c = sym (touch_end _ _ _ c.loop-i-test.false) ∙ c.loop-i.invariant

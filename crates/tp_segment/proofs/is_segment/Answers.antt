@@ -1,0 +1,27 @@
+-- `tp_segment::is_segment` meets its contract: by the tests in their order. Assumes nothing.
+use Prim.Native.Nat.{ℕ, ◌≤◌}
+use mathlib.Core.List.{List}
+use mathlib.Core.Path.{◌≡◌, sym, ◌∙◌}
+use lib.ListN.{length}
+use Rattle.numbers.specs.Bytes.{at16, at32}
+use Rattle.tp_segment.proofs.Laws.{is_short, is_length, is_version, is_type}
+use borrow.Author.Rules.{rules}
+use Rattle.tp_segment.proofs.is_segment.Goals as goal
+
+pub returns-then-s-lt-SEGMENT_HEADER_LEN : goal.returns-then-s-lt-SEGMENT_HEADER_LEN
+returns-then-s-lt-SEGMENT_HEADER_LEN c = sym (is_short _ c.if-s-lt-SEGMENT_HEADER_LEN.true)
+
+unfolding at16 at32
+pub returns-then-field-s : goal.returns-then-field-s
+returns-then-field-s c =
+    sym (is_length _ (let long : 20 ≤ length c.args.s.now = c.if-s-lt-SEGMENT_HEADER_LEN.false in long) (λ e. c.if-field-s.true ((let field : c.be32-field.result ≡ at32 c.args.s.now 4 = c.be32-field.ensures in field) ∙ e)))
+
+unfolding at16 at32
+pub returns-then-s-ne1 : goal.returns-then-s-ne1
+returns-then-s-ne1 c =
+    sym (is_version _ (let long : 20 ≤ length c.args.s.now = c.if-s-lt-SEGMENT_HEADER_LEN.false in long) (sym (let field : c.be32-field.result ≡ at32 c.args.s.now 4 = c.be32-field.ensures in field) ∙ c.if-field-s.false) c.if-s-ne1.true)
+
+unfolding at16 at32
+pub returns : goal.returns
+returns c =
+    c.tp_type.ensures ∙ sym (is_type _ (let long : 20 ≤ length c.args.s.now = c.if-s-lt-SEGMENT_HEADER_LEN.false in long) (sym (let field : c.be32-field.result ≡ at32 c.args.s.now 4 = c.be32-field.ensures in field) ∙ c.if-field-s.false) c.if-s-ne1.false)

@@ -1,0 +1,6 @@
+-- `tp_stream::malformed::end_past` meets its contract. Assumes nothing.
+use borrow.Author.Rules.{rules}
+use Rattle.tp_stream.proofs.malformed.end_past.Goals as goal
+
+pub returns-in-Known : goal.returns-in-Known
+returns-in-Known c = rw c.end-1.given.1

@@ -1,0 +1,23 @@
+-- `tp_stream::take` meets its contract. Assumes nothing.
+use mathlib.Core.Path.{◌≡◌, sym, ap, ◌∙◌}
+use native.Mathlib.Omega.{arith}
+use lib.ListN.{length}
+use Rattle.numbers.specs.Answers.{accepted}
+use Rattle.tp_machine.specs.Taking.{ready}
+use Rattle.refusal.specs.Said.{count_said}
+use Rattle.tp_rules.proofs.WritingLaws.{length_fits}
+use Rattle.tp_stream.specs.Stream.{view}
+use Rattle.tp_machine.proofs.Steps.{ready_tells}
+use Rattle.tp_stream.proofs.TakingLaws.{took_end, took_nothing}
+use borrow.Author.Rules.{rules}
+use Rattle.tp_stream.proofs.take.Goals as goal
+
+pub returns-in_default : goal.returns-in_default
+returns-in_default c =
+    took_nothing c.args.s c.args.buf.now _ _ c.enum_told-1.given.1 c.ready-answer.ensures
+
+pub returns : goal.returns
+returns c =
+    let a = c.args in
+    let tells = ready_tells _ _ _ (let given_end : accepted c.answer-1.given.0.0 ≡ ready (view c.args.s) (length c.args.buf.now) = ap count_said (sym c.answer-1.given.1) ∙ c.ready-answer.ensures in given_end) in
+    took_end a.s a.buf.now _ _ (let given_end : accepted c.answer-1.given.0.0 ≡ ready (view c.args.s) (length c.args.buf.now) = ap count_said (sym c.answer-1.given.1) ∙ c.ready-answer.ensures in given_end) (c.put_length.ensures ∙ length_fits a.buf.now _ (omega (arith, tells)) (omega (arith, tells)))

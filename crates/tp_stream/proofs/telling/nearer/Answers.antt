@@ -1,0 +1,18 @@
+-- `tp_stream::telling::nearer` meets its contract: by the tests in their order. Assumes nothing.
+use Rattle.tp_stream.proofs.TellingLaws.{too_early, found_already, none_yet}
+use Rattle.tp_stream.proofs.telling.nearer.Goals as goal
+
+pub returns-then-r-from : goal.returns-then-r-from
+returns-then-r-from c =
+    let a = c.args in
+    too_early a.from a.r a.first a.found c.if-r-from.true
+
+pub returns-then-found : goal.returns-then-found
+returns-then-found c =
+    let a = c.args in
+    found_already a.from a.r a.first a.found c.if-r-from.false c.if-found.true
+
+pub returns : goal.returns
+returns c =
+    let a = c.args in
+    none_yet a.from a.r a.first a.found c.if-r-from.false c.if-found.false
