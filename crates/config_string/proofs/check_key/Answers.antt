@@ -30,7 +30,7 @@ returns-then-class-lt-SPACE c =
 
 pub loop-i-preserved : goal.loop-i-preserved
 loop-i-preserved c =
-    let good = (let byte : Told (get_or c.args.item.now c.loop-i.i 0) c.class_of-class.result = subst (Told (get_or c.args.item.now c.loop-i.i 0)) (sym c.class_of-class.ensures) (told (get_or c.args.item.now c.loop-i.i 0)) in byte).well-formed c.if-class-lt-SPACE.false in
+    let good = (let byte : Told (get_or c.args.item.now c.loop-i.i 0) c.class_of-class.result = subst (Told (get_or c.args.item.now c.loop-i.i 0)) (sym c.class_of-class.ensures) (told (get_or c.args.item.now c.loop-i.i 0)) in byte).good c.if-class-lt-SPACE.false in
     let seen = c.loop-i.seen in
     let both = joined seen (get_or c.args.item.now c.loop-i.i 0) c.class_of-class.result c.loop-i.invariant.1 good in (
       c.loop-i.invariant.0
@@ -41,6 +41,5 @@ loop-i-preserved c =
 
 pub returns : goal.returns
 returns c =
-    let args = c.args in
     c.check_end_of_key-2.ensures
-    ∙ sym (c.loop-i.invariant.0 ∙ left_end args.at args.item.now c.loop-i.i _ c.loop-i-test.false)
+    ∙ sym (c.loop-i.invariant.0 ∙ left_end c.args.at c.args.item.now c.loop-i.i _ c.loop-i-test.false)

@@ -31,21 +31,20 @@ pub returns-in_default : goal.returns-in_default
 unfolding given
 returns-in_default c =
     let some = c.if-size-eq0.false in
-    let told = c.enum_told-in_default-1.given in
-    ap verdict_said told.1
+    ap verdict_said c.in_default.is
     ∙ sym (c.loop-at.invariant
-    ∙ ap verdict (left_refused c.args.s.now c.loop-at.at c.loop-at-test.true some (said told.0.0) ((let item_judged : (a : Verdict) → c.check_item-answer.result ≡ a → judge_item c.loop-at.at (get_or c.args.s.now c.loop-at.at 0) (drop (c.loop-at.at + 1) c.args.s.now) ≡ verdict_said a = λ a told. judged c.args.s.now c.loop-at.at (get_or c.args.s.now c.loop-at.at 0) c.check_item-answer.ensures told in item_judged) _ told.1)))
+    ∙ ap verdict (left_refused c.args.s.now c.loop-at.at c.loop-at-test.true some (said c.in_default.field-0) ((let item_judged : (a : Verdict) → c.check_item-answer.result ≡ a → judge_item c.loop-at.at (get_or c.args.s.now c.loop-at.at 0) (drop (c.loop-at.at + 1) c.args.s.now) ≡ verdict_said a = λ a told. judged c.args.s.now c.loop-at.at (get_or c.args.s.now c.loop-at.at 0) c.check_item-answer.ensures told in item_judged) _ c.in_default.is)))
 
 pub overflow_cast-at : goal.overflow_cast-at
-overflow_cast-at c = omega (arith, (let item_within : c.check_item-answer.result ≡ Passed → get_or c.args.s.now c.loop-at.at 0 ≤ length c.args.s.now - (c.loop-at.at + 1) = λ told. within c.args.s.now c.loop-at.at (get_or c.args.s.now c.loop-at.at 0) ((let item_judged : (a : Verdict) → c.check_item-answer.result ≡ a → judge_item c.loop-at.at (get_or c.args.s.now c.loop-at.at 0) (drop (c.loop-at.at + 1) c.args.s.now) ≡ verdict_said a = λ a told. judged c.args.s.now c.loop-at.at (get_or c.args.s.now c.loop-at.at 0) c.check_item-answer.ensures told in item_judged) Passed told) in item_within) c.enum_told-1.given.1)
+overflow_cast-at c = omega (arith, (let item_within : c.check_item-answer.result ≡ Passed → get_or c.args.s.now c.loop-at.at 0 ≤ length c.args.s.now - (c.loop-at.at + 1) = λ told. within c.args.s.now c.loop-at.at (get_or c.args.s.now c.loop-at.at 0) ((let item_judged : (a : Verdict) → c.check_item-answer.result ≡ a → judge_item c.loop-at.at (get_or c.args.s.now c.loop-at.at 0) (drop (c.loop-at.at + 1) c.args.s.now) ≡ verdict_said a = λ a told. judged c.args.s.now c.loop-at.at (get_or c.args.s.now c.loop-at.at 0) c.check_item-answer.ensures told in item_judged) Passed told) in item_within) c.in-Passed.is)
 
 pub overflow_add-at : goal.overflow_add-at
-overflow_add-at c = omega (arith, (let item_within : c.check_item-answer.result ≡ Passed → get_or c.args.s.now c.loop-at.at 0 ≤ length c.args.s.now - (c.loop-at.at + 1) = λ told. within c.args.s.now c.loop-at.at (get_or c.args.s.now c.loop-at.at 0) ((let item_judged : (a : Verdict) → c.check_item-answer.result ≡ a → judge_item c.loop-at.at (get_or c.args.s.now c.loop-at.at 0) (drop (c.loop-at.at + 1) c.args.s.now) ≡ verdict_said a = λ a told. judged c.args.s.now c.loop-at.at (get_or c.args.s.now c.loop-at.at 0) c.check_item-answer.ensures told in item_judged) Passed told) in item_within) c.enum_told-1.given.1)
+overflow_add-at c = omega (arith, (let item_within : c.check_item-answer.result ≡ Passed → get_or c.args.s.now c.loop-at.at 0 ≤ length c.args.s.now - (c.loop-at.at + 1) = λ told. within c.args.s.now c.loop-at.at (get_or c.args.s.now c.loop-at.at 0) ((let item_judged : (a : Verdict) → c.check_item-answer.result ≡ a → judge_item c.loop-at.at (get_or c.args.s.now c.loop-at.at 0) (drop (c.loop-at.at + 1) c.args.s.now) ≡ verdict_said a = λ a told. judged c.args.s.now c.loop-at.at (get_or c.args.s.now c.loop-at.at 0) c.check_item-answer.ensures told in item_judged) Passed told) in item_within) c.in-Passed.is)
 
 pub loop-at-preserved : goal.loop-at-preserved
 loop-at-preserved c =
     let some = c.if-size-eq0.false in
-    c.loop-at.invariant ∙ left_good c.args.s.now c.loop-at.at c.loop-at-test.true some ((let item_judged : (a : Verdict) → c.check_item-answer.result ≡ a → judge_item c.loop-at.at (get_or c.args.s.now c.loop-at.at 0) (drop (c.loop-at.at + 1) c.args.s.now) ≡ verdict_said a = λ a told. judged c.args.s.now c.loop-at.at (get_or c.args.s.now c.loop-at.at 0) c.check_item-answer.ensures told in item_judged) _ c.enum_told-1.given.1)
+    c.loop-at.invariant ∙ left_good c.args.s.now c.loop-at.at c.loop-at-test.true some ((let item_judged : (a : Verdict) → c.check_item-answer.result ≡ a → judge_item c.loop-at.at (get_or c.args.s.now c.loop-at.at 0) (drop (c.loop-at.at + 1) c.args.s.now) ≡ verdict_said a = λ a told. judged c.args.s.now c.loop-at.at (get_or c.args.s.now c.loop-at.at 0) c.check_item-answer.ensures told in item_judged) _ c.in-Passed.is)
 
 pub returns : goal.returns
 unfolding given

@@ -11,13 +11,13 @@ use Rattle.config_string.proofs.item_part.Goals.{In-Good}
 
 -- the item that was found
 item : (c : In-Good)
-    → Found c.args.s.now c.args.at c.answer-1.given.0.0
+    → Found c.args.s.now c.args.at c.in-Good.next
 item c =
-    found c.args.s.now c.args.at _ (sym c.next_item-answer.ensures ∙ ap count_said c.answer-1.given.1)
+    found c.args.s.now c.args.at _ (sym c.next_item-answer.ensures ∙ ap count_said c.in-Good.is)
 
 pub returns-in_default : goal.returns-in_default
 returns-in_default c =
-    sym (ap part (given_refused _ _ _ (sym c.next_item-answer.ensures ∙ ap count_said c.enum_told-1.given.1)))
+    sym (ap part (given_refused _ _ _ (sym c.next_item-answer.ensures ∙ ap count_said c.in_default.is)))
 
 pub overflow_add-start : goal.overflow_add-start
 overflow_add-start c = let here = item c in omega arith

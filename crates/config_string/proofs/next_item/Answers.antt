@@ -27,19 +27,18 @@ returns-then-size-eq0 c =
 pub returns-in_default : goal.returns-in_default
 unfolding given
 returns-in_default c =
-    let told = c.enum_told-in_default-1.given in
-    ap (λ r. refused (said r)) (c.refusal.ensures ∙ ap verdict_refusal told.1)
-    ∙ sym (ap (given (past c.args.at)) (next_bad c.args.s.now c.args.at c.if-s-at.false c.if-size-eq0.false _ ((let item_judged : (a : Verdict) → c.check_item-answer.result ≡ a → judge_item c.args.at (get_or c.args.s.now c.args.at 0) (drop (c.args.at + 1) c.args.s.now) ≡ verdict_said a = λ a told. judged c.args.s.now c.args.at (get_or c.args.s.now c.args.at 0) c.check_item-answer.ensures told in item_judged) _ told.1)))
+    ap (λ r. refused (said r)) (c.refusal.ensures ∙ ap verdict_refusal c.in_default.is)
+    ∙ sym (ap (given (past c.args.at)) (next_bad c.args.s.now c.args.at c.if-s-at.false c.if-size-eq0.false _ ((let item_judged : (a : Verdict) → c.check_item-answer.result ≡ a → judge_item c.args.at (get_or c.args.s.now c.args.at 0) (drop (c.args.at + 1) c.args.s.now) ≡ verdict_said a = λ a told. judged c.args.s.now c.args.at (get_or c.args.s.now c.args.at 0) c.check_item-answer.ensures told in item_judged) _ c.in_default.is)))
 
 pub overflow_cast-result : goal.overflow_cast-result
-overflow_cast-result c = omega (arith, (let item_within : c.check_item-answer.result ≡ Passed → get_or c.args.s.now c.args.at 0 ≤ length c.args.s.now - (c.args.at + 1) = λ told. within c.args.s.now c.args.at (get_or c.args.s.now c.args.at 0) ((let item_judged : (a : Verdict) → c.check_item-answer.result ≡ a → judge_item c.args.at (get_or c.args.s.now c.args.at 0) (drop (c.args.at + 1) c.args.s.now) ≡ verdict_said a = λ a told. judged c.args.s.now c.args.at (get_or c.args.s.now c.args.at 0) c.check_item-answer.ensures told in item_judged) Passed told) in item_within) c.enum_told-1.given.1)
+overflow_cast-result c = omega (arith, (let item_within : c.check_item-answer.result ≡ Passed → get_or c.args.s.now c.args.at 0 ≤ length c.args.s.now - (c.args.at + 1) = λ told. within c.args.s.now c.args.at (get_or c.args.s.now c.args.at 0) ((let item_judged : (a : Verdict) → c.check_item-answer.result ≡ a → judge_item c.args.at (get_or c.args.s.now c.args.at 0) (drop (c.args.at + 1) c.args.s.now) ≡ verdict_said a = λ a told. judged c.args.s.now c.args.at (get_or c.args.s.now c.args.at 0) c.check_item-answer.ensures told in item_judged) Passed told) in item_within) c.in-Passed.is)
 
 pub overflow_add-result : goal.overflow_add-result
-overflow_add-result c = omega (arith, (let item_within : c.check_item-answer.result ≡ Passed → get_or c.args.s.now c.args.at 0 ≤ length c.args.s.now - (c.args.at + 1) = λ told. within c.args.s.now c.args.at (get_or c.args.s.now c.args.at 0) ((let item_judged : (a : Verdict) → c.check_item-answer.result ≡ a → judge_item c.args.at (get_or c.args.s.now c.args.at 0) (drop (c.args.at + 1) c.args.s.now) ≡ verdict_said a = λ a told. judged c.args.s.now c.args.at (get_or c.args.s.now c.args.at 0) c.check_item-answer.ensures told in item_judged) Passed told) in item_within) c.enum_told-1.given.1)
+overflow_add-result c = omega (arith, (let item_within : c.check_item-answer.result ≡ Passed → get_or c.args.s.now c.args.at 0 ≤ length c.args.s.now - (c.args.at + 1) = λ told. within c.args.s.now c.args.at (get_or c.args.s.now c.args.at 0) ((let item_judged : (a : Verdict) → c.check_item-answer.result ≡ a → judge_item c.args.at (get_or c.args.s.now c.args.at 0) (drop (c.args.at + 1) c.args.s.now) ≡ verdict_said a = λ a told. judged c.args.s.now c.args.at (get_or c.args.s.now c.args.at 0) c.check_item-answer.ensures told in item_judged) Passed told) in item_within) c.in-Passed.is)
 
 pub returns : goal.returns
 unfolding given
 returns c =
-    let good = (let item_judged : (a : Verdict) → c.check_item-answer.result ≡ a → judge_item c.args.at (get_or c.args.s.now c.args.at 0) (drop (c.args.at + 1) c.args.s.now) ≡ verdict_said a = λ a told. judged c.args.s.now c.args.at (get_or c.args.s.now c.args.at 0) c.check_item-answer.ensures told in item_judged) Passed c.enum_told-1.given.1 in
+    let good = (let item_judged : (a : Verdict) → c.check_item-answer.result ≡ a → judge_item c.args.at (get_or c.args.s.now c.args.at 0) (drop (c.args.at + 1) c.args.s.now) ≡ verdict_said a = λ a told. judged c.args.s.now c.args.at (get_or c.args.s.now c.args.at 0) c.check_item-answer.ensures told in item_judged) Passed c.in-Passed.is in
     sym (ap (given (past c.args.at)) (next_good c.args.s.now c.args.at c.if-s-at.false c.if-size-eq0.false good)
     ∙ ap accepted (past_item c.args.s.now c.args.at (get_or c.args.s.now c.args.at 0) good))

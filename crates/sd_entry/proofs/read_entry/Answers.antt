@@ -16,7 +16,7 @@ pub returns-in-6-to-7 : goal.returns-in-6-to-7
 returns-in-6-to-7 c = c.eventgroup_entry.ensures ∙ sym (read_typed _ c.if-s-lt-ENTRY_LEN.false)
 
 pub returns-in_default : goal.returns-in_default
-returns-in_default c = sym (read_unknown _ c.if-s-lt-ENTRY_LEN.false (omega arith) (inl c.if-code-lt6.true))
+returns-in_default c = sym (read_unknown _ c.if-s-lt-ENTRY_LEN.false (omega arith) (inl c.in_default.if-code-lt6-own.true))
 
 pub returns-in_default-2 : goal.returns-in_default-2
-returns-in_default-2 c = sym (read_unknown _ c.if-s-lt-ENTRY_LEN.false (omega arith) (inr c.if-code-lt8.false))
+returns-in_default-2 c = sym (read_unknown _ c.if-s-lt-ENTRY_LEN.false (omega arith) (inr c.in_default.if-code-lt8-own.false))

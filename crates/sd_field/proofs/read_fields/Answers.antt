@@ -8,13 +8,13 @@ use Rattle.sd_field.proofs.FieldLaws.{found_headed, found_fields, refused_fields
 use Rattle.sd_field.proofs.read_fields.Goals as goal
 
 pub returns-in_default : goal.returns-in_default
-returns-in_default c = refused_fields _ _ _ c.read_option-answer.ensures c.enum_told-1.given.1 c.refusal.ensures
+returns-in_default c = refused_fields _ _ _ c.read_option-answer.ensures c.in_default.is c.refusal.ensures
 
 pub slice_bounds-fields_of-count : goal.slice_bounds-fields_of-count
-slice_bounds-fields_of-count c = let t = (let here : Found (judge_content (settings_said c.args.settings)) c.args.s.now c.answer-1.given.0.0 = found (judge_content _) _ _ c.read_option-answer.ensures _ c.answer-1.given.1 in here) in omega arith
+slice_bounds-fields_of-count c = let t = (let here : Found (judge_content (settings_said c.args.settings)) c.args.s.now c.in-Good.head = found (judge_content _) _ _ c.read_option-answer.ensures _ c.in-Good.is in here) in omega arith
 
 pub fields_of-requires : goal.fields_of-requires
-fields_of-requires c = found_headed _ (let here : Found (judge_content (settings_said c.args.settings)) c.args.s.now c.answer-1.given.0.0 = found (judge_content _) _ _ c.read_option-answer.ensures _ c.answer-1.given.1 in here)
+fields_of-requires c = found_headed _ (let here : Found (judge_content (settings_said c.args.settings)) c.args.s.now c.in-Good.head = found (judge_content _) _ _ c.read_option-answer.ensures _ c.in-Good.is in here)
 
 pub returns : goal.returns
-returns c = found_fields _ (let here : Found (judge_content (settings_said c.args.settings)) c.args.s.now c.answer-1.given.0.0 = found (judge_content _) _ _ c.read_option-answer.ensures _ c.answer-1.given.1 in here) c.fields_of.result c.fields_of.ensures
+returns c = found_fields _ (let here : Found (judge_content (settings_said c.args.settings)) c.args.s.now c.in-Good.head = found (judge_content _) _ _ c.read_option-answer.ensures _ c.in-Good.is in here) c.fields_of.result c.fields_of.ensures

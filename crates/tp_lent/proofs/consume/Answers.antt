@@ -4,9 +4,8 @@ use borrow.Author.Rules.{rules}
 use Rattle.tp_lent.proofs.consume.Goals as goal
 
 pub carry_out-requires : goal.carry_out-requires
-carry_out-requires c =c.plan_of-plan.ensures c.if-plan.true
+carry_out-requires c = c.plan_of-plan.ensures c.if-plan.true
 
 pub returns-then-plan : goal.returns-then-plan
 returns-then-plan c =
-    let a = c.args in
-    joined_in_place a.words.now a.seg.now a.buf.now c.plan_of-plan.result (c.plan_of-plan.ensures c.if-plan.true) _ _ c.carry_out.ensures
+    joined_in_place c.args.words.now c.args.seg.now c.args.buf.now c.plan_of-plan.result (c.plan_of-plan.ensures c.if-plan.true) _ _ c.carry_out.ensures

@@ -6,10 +6,8 @@ use Rattle.tp_lent.proofs.consume_by_value.Goals as goal
 
 pub returns-in_default : goal.returns-in_default
 returns-in_default c =
-    let a = c.args in
-    refused_by_value a.words.now a.seg.now a.buf.now _ c.stream_of.ensures _ _ c.consume-step.ensures _ _ c.enum_told-in_default-1.given.1 refl
+    refused_by_value c.args.words.now c.args.seg.now c.args.buf.now _ c.stream_of.ensures _ _ c.consume-step.ensures _ _ c.in_default.is refl
 
 pub returns : goal.returns
 returns c =
-    let a = c.args in
-    joined_by_value a.words.now a.seg.now a.buf.now _ c.stream_of.ensures _ _ c.consume-step.ensures _ c.enum_told-1.given.1 c.put.ensures
+    joined_by_value c.args.words.now c.args.seg.now c.args.buf.now _ c.stream_of.ensures _ _ c.consume-step.ensures _ c.in-Passed.is c.put.ensures

@@ -33,18 +33,17 @@ range_at-requires c = (omega arith, (let enough : size ≤ length c.args.words.n
 
 pub returns-in_default : goal.returns-in_default
 returns-in_default c =
-    took_nothing (stream_of (ws c)) (buf c) _ _ c.enum_told-1.given.1 (let said_so : count_said c.ready_of-answer.result ≡ ready (state_of (c.args.words.now c)) (length (c.args.buf.now c)) = λ =
+    took_nothing (stream_of (ws c)) (buf c) _ _ c.in_default.is (let said_so : count_said c.ready_of-answer.result ≡ ready (state_of (c.args.words.now c)) (length (c.args.buf.now c)) = λ =
       let at-range. c in let at-end = at-range.before.before in c.ready_of-answer.ensures ∙ readies (c.args.words.now c) ((let order : in_order c.args.words.now ≡ true = sym c.in_order.ensures ∙ c.if-in_order.true in order) c) at-end.end_of.result at-range.range_at.result at-end.end_of.ensures at-range.range_at.ensures (length (c.args.buf.now c)) in said_so)
 
 pub returns-then-in_order : goal.returns-then-in_order
 returns-then-in_order c =
     let b = buf c in
-    let given : accepted c.answer-1.given.0.0 ≡ ready (state_of (ws c)) (length b) = ap count_said (sym c.answer-1.given.1) ∙ (let said_so : count_said c.ready_of-answer.result ≡ ready (state_of (c.args.words.now c)) (length (c.args.buf.now c)) = λ =
+    let given : accepted c.in-Good.end ≡ ready (state_of (ws c)) (length b) = ap count_said (sym c.in-Good.is) ∙ (let said_so : count_said c.ready_of-answer.result ≡ ready (state_of (c.args.words.now c)) (length (c.args.buf.now c)) = λ =
       let at-range. c in let at-end = at-range.before.before in c.ready_of-answer.ensures ∙ readies (c.args.words.now c) ((let order : in_order c.args.words.now ≡ true = sym c.in_order.ensures ∙ c.if-in_order.true in order) c) at-end.end_of.result at-range.range_at.result at-end.end_of.ensures at-range.range_at.ensures (length (c.args.buf.now c)) in said_so) in
     let tells = ready_tells _ _ _ given in
     took_end (stream_of (ws c)) b _ _ given (c.put_length.ensures ∙ length_fits b _ (omega (arith, tells)) (omega (arith, tells)))
 
 pub returns : goal.returns
 returns c =
-    let a = c.args in
-    subst (λ (s : TpStream). Took s a.buf.now c.take.result c.take.new.1.0) c.stream_of.ensures c.take.ensures
+    subst (λ (s : TpStream). Took s c.args.buf.now c.take.result c.take.new.1.0) c.stream_of.ensures c.take.ensures

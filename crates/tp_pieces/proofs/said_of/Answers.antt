@@ -5,7 +5,7 @@ use Rattle.tp_pieces.specs.Pieces.{numbers}
 use Rattle.tp_pieces.proofs.said_of.Goals as goal
 
 pub returns-in-Passed : goal.returns-in-Passed
-returns-in-Passed c = c.none.ensures ∙ sym (ap numbers c.enum_told-1.given.1)
+returns-in-Passed c = c.none.ensures ∙ sym (ap numbers c.in-Passed.is)
 
 pub returns-in-Refused : goal.returns-in-Refused
-returns-in-Refused c = c.Numbers-of.ensures ∙ sym (ap numbers c.verdict-1.given.1)
+returns-in-Refused c = c.Numbers-of.ensures ∙ sym (ap numbers c.in-Refused.is)

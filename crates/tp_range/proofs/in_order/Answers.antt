@@ -12,15 +12,15 @@ use Rattle.tp_range.proofs.in_order.Goals as goal
 
 pub returns-then-r-low : goal.returns-then-r-low
 returns-then-r-low c =
-    sym (c.loop-i.invariant ∙ rising_low backward c.args.t1 c.loop-i.i c.args.count c.loop-i-test.true (let fits : c.args.count ≤ length c.args.t1 = omega (arith, c.requires, (let long : length c.args.t1 ≡ most = search rules in long)) in fits) _ refl c.loop-i.low c.if-r-low.true)
+    sym (c.loop-i.invariant ∙ rising_low backward c.args.ranges c.loop-i.i c.args.count c.loop-i-test.true (let fits : c.args.count ≤ length c.args.ranges = omega (arith, c.requires, (let long : length c.args.ranges ≡ most = search rules in long)) in fits) _ refl c.loop-i.low c.if-r-low.true)
 
 pub returns-then-r : goal.returns-then-r
 returns-then-r c =
-    sym (c.loop-i.invariant ∙ rising_bad backward c.args.t1 c.loop-i.i c.args.count c.loop-i-test.true (let fits : c.args.count ≤ length c.args.t1 = omega (arith, c.requires, (let long : length c.args.t1 ≡ most = search rules in long)) in fits) _ refl c.loop-i.low c.if-r-low.false (lt-ltb _ _ c.if-r.true))
+    sym (c.loop-i.invariant ∙ rising_bad backward c.args.ranges c.loop-i.i c.args.count c.loop-i-test.true (let fits : c.args.count ≤ length c.args.ranges = omega (arith, c.requires, (let long : length c.args.ranges ≡ most = search rules in long)) in fits) _ refl c.loop-i.low c.if-r-low.false (lt-ltb _ _ c.if-r.true))
 
 pub loop-i-preserved : goal.loop-i-preserved
 loop-i-preserved c =
-    c.loop-i.invariant ∙ rising_next backward c.args.t1 c.loop-i.i c.args.count c.loop-i-test.true (let fits : c.args.count ≤ length c.args.t1 = omega (arith, c.requires, (let long : length c.args.t1 ≡ most = search rules in long)) in fits) _ refl c.loop-i.low c.if-r-low.false (le-ltb _ _ c.if-r.false)
+    c.loop-i.invariant ∙ rising_next backward c.args.ranges c.loop-i.i c.args.count c.loop-i-test.true (let fits : c.args.count ≤ length c.args.ranges = omega (arith, c.requires, (let long : length c.args.ranges ≡ most = search rules in long)) in fits) _ refl c.loop-i.low c.if-r-low.false (le-ltb _ _ c.if-r.false)
 
 pub returns : goal.returns
-returns c = let a = c.args in sym (c.loop-i.invariant ∙ rising_done backward c.loop-i.low a.t1 c.loop-i.i a.count c.loop-i-test.false)
+returns c = sym (c.loop-i.invariant ∙ rising_done backward c.loop-i.low c.args.ranges c.loop-i.i c.args.count c.loop-i-test.false)

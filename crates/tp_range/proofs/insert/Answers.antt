@@ -19,18 +19,18 @@ place_of-at-requires c = omega (arith, c.requires)
 
 pub loop-i-init : goal.loop-i-init
 loop-i-init c =
-    let held : length (take c.args.count c.args.t1) ≡ c.args.count = length-take-le _ _ (le_of_lt (let fits : c.args.count < length c.args.t1 = omega (arith, (let long : length c.args.t1 ≡ most = search rules in long) c, c.requires) in fits)) in
+    let held : length (take c.args.count c.args.ranges) ≡ c.args.count = length-take-le _ _ (le_of_lt (let fits : c.args.count < length c.args.ranges = omega (arith, (let long : length c.args.ranges ≡ most = search rules in long), c.requires) in fits)) in
     record {
-      from = omega (arith, c.place_of-at.ensures, held, place_upto c.args.new.start (take c.args.count c.args.t1));
+      from = omega (arith, c.place_of-at.ensures, held, place_upto c.args.new.start (take c.args.count c.args.ranges));
       upto = omega arith;
-      long = (let long : length c.args.t1 ≡ most = search rules in long);
-      is = moved_none c.args.t1 c.args.count;
+      long = (let long : length c.args.ranges ≡ most = search rules in long);
+      is = moved_none c.args.ranges c.args.count;
     }
 
 pub loop-i-preserved : goal.loop-i-preserved
 loop-i-preserved c =
     let inv = c.loop-i.invariant in
-    let array = c.args.t1 in
+    let array = c.args.ranges in
     let count : ℕ = c.args.count in
     let i : ℕ = c.loop-i.i in
     let back : i - 1 + 1 ≡ i = omega arith in
@@ -38,15 +38,15 @@ loop-i-preserved c =
       from = omega arith;
       upto = omega arith;
       long = simp length-set inv.long;
-      is = ap (λ (l : List TpRange). set l (i - 1 + 1) (get_or array (i - 1) none)) (inv.is ∙ sym (ap (moved array count) back)) ∙ moved_one array count (let fits : c.args.count < length c.args.t1 = omega (arith, (let long : length c.args.t1 ≡ most = search rules in long) c, c.requires) in fits) (i - 1) (omega arith);
+      is = ap (λ (l : List TpRange). set l (i - 1 + 1) (get_or array (i - 1) none)) (inv.is ∙ sym (ap (moved array count) back)) ∙ moved_one array count (let fits : c.args.count < length c.args.ranges = omega (arith, (let long : length c.args.ranges ≡ most = search rules in long), c.requires) in fits) (i - 1) (omega arith);
     }
 
 pub returns : goal.returns
 returns c =
-    let array = c.args.t1 in
+    let array = c.args.ranges in
     let count : ℕ = c.args.count in
     let new : TpRange = c.args.new in
     let at : ℕ = c.place_of-at.result in
     let inv = c.loop-i.invariant in
     ap (λ (l : List TpRange). set l at new) (inv.is ∙ ap (moved array count) (le_antisymm c.loop-i-test.false inv.from))
-    ∙ moved_in array count (let fits : c.args.count < length c.args.t1 = omega (arith, (let long : length c.args.t1 ≡ most = search rules in long) c, c.requires) in fits) new at c.place_of-at.ensures
+    ∙ moved_in array count (let fits : c.args.count < length c.args.ranges = omega (arith, (let long : length c.args.ranges ≡ most = search rules in long), c.requires) in fits) new at c.place_of-at.ensures

@@ -34,30 +34,30 @@ module _
 
 pub loop-i-init : goal.loop-i-init
 unfolding keep grow
-loop-i-init c = record { upto = omega arith; few = omega arith; long = (let long : length c.args.t1 ≡ most = search rules in long); counts = refl; lays = refl; grows = refl }
+loop-i-init c = record { upto = omega arith; few = omega arith; long = (let long : length c.args.ranges ≡ most = search rules in long); counts = refl; lays = refl; grows = refl }
 
 pub loop-i-preserved-then-touches : goal.loop-i-preserved-then-touches
 loop-i-preserved-then-touches c =
     let inv = c.loop-i.invariant in
-    let h : c.loop-i.i < length c.args.t1 = omega (arith, (let long : length c.args.t1 ≡ most = search rules in long)) in
-    let e : touch c.args.new (get_or c.args.t1 c.loop-i.i none) ≡ true = sym c.touches.ensures ∙ c.if-touches.true in
-    let k : keep c.args.new (take (c.loop-i.i + 1) c.args.t1) ≡ keep c.args.new (take c.loop-i.i c.args.t1) = keep_touched _ _ _ none h e in
+    let h : c.loop-i.i < length c.args.ranges = omega (arith, (let long : length c.args.ranges ≡ most = search rules in long)) in
+    let e : touch c.args.new (get_or c.args.ranges c.loop-i.i none) ≡ true = sym c.touches.ensures ∙ c.if-touches.true in
+    let k : keep c.args.new (take (c.loop-i.i + 1) c.args.ranges) ≡ keep c.args.new (take c.loop-i.i c.args.ranges) = keep_touched _ _ _ none h e in
     record {
       upto = omega arith;
       few = omega arith;
       long = inv.long;
       counts = inv.counts ∙ sym (ap length k);
-      lays = inv.lays ∙ sym (ap (λ (l : List TpRange). over l c.args.t1) k);
-      grows = c.hull-grown.ensures ∙ ap (λ (g : TpRange). hull_of g (get_or c.args.t1 c.loop-i.i none)) inv.grows ∙ sym (grow_touched _ _ _ none h _ e);
+      lays = inv.lays ∙ sym (ap (λ (l : List TpRange). over l c.args.ranges) k);
+      grows = c.hull-grown.ensures ∙ ap (λ (g : TpRange). hull_of g (get_or c.args.ranges c.loop-i.i none)) inv.grows ∙ sym (grow_touched _ _ _ none h _ e);
     }
 
 pub loop-i-preserved : goal.loop-i-preserved
 loop-i-preserved c =
     let inv = c.loop-i.invariant in
-    let array = c.args.t1 in
+    let array = c.args.ranges in
     let r : TpRange = get_or array c.loop-i.i none in
     let old : List TpRange = keep c.args.new (take c.loop-i.i array) in
-    let h : c.loop-i.i < length array = omega (arith, (let long : length c.args.t1 ≡ most = search rules in long)) in
+    let h : c.loop-i.i < length array = omega (arith, (let long : length c.args.ranges ≡ most = search rules in long)) in
     let e : touch c.args.new r ≡ false = sym c.touches.ensures ∙ c.if-touches.false in
     let k : keep c.args.new (take (c.loop-i.i + 1) array) ≡ old ++ (r ∷ []) = keep_apart _ _ _ none h e in
     record {
@@ -70,14 +70,14 @@ loop-i-preserved c =
     }
 
 pub insert-requires : goal.insert-requires
-insert-requires c = omega (arith, (let room : c.loop-i.auto < most = omega arith in room))
+insert-requires c = omega (arith, (let room : c.loop-i.kept < most = omega arith in room))
 
 pub returns-then-kept-lt-MAX_RANGES : goal.returns-then-kept-lt-MAX_RANGES
 returns-then-kept-lt-MAX_RANGES c =
-    (λ j. record { full = false; ranges = c.insert.ensures j; count = c.loop-i.auto + 1 })
-    ∙ with_place _ _ _ _ _ _ _ _ (let long : length c.args.t1 ≡ most = search rules in long) c.loop-i.invariant c.loop-i-test.false c.places-held.ensures (let room : c.loop-i.auto < most = omega arith in room)
+    (λ j. record { full = false; ranges = c.insert.ensures j; count = c.loop-i.kept + 1 })
+    ∙ with_place _ _ _ _ _ _ _ _ (let long : length c.args.ranges ≡ most = search rules in long) c.loop-i.invariant c.loop-i-test.false c.places-held.ensures (let room : c.loop-i.kept < most = omega arith in room)
 
 pub returns : goal.returns
 returns c =
-    let none_left : most ≤ c.loop-i.auto = omega arith in
-    without _ _ _ _ _ _ _ _ (let long : length c.args.t1 ≡ most = search rules in long) c.loop-i.invariant c.loop-i-test.false c.places-held.ensures none_left
+    let none_left : most ≤ c.loop-i.kept = omega arith in
+    without _ _ _ _ _ _ _ _ (let long : length c.args.ranges ≡ most = search rules in long) c.loop-i.invariant c.loop-i-test.false c.places-held.ensures none_left

@@ -20,11 +20,11 @@ loop-i-init c = record { upto = omega arith; rest = omega arith }
 
 pub returns-then-start-r : goal.returns-then-start-r
 returns-then-start-r c =
-    sym (place_here _ _ _ none c.loop-i-test.true (let fits : c.args.count ≤ length c.args.t1 = let long : length c.args.t1 ≡ most = search rules in omega (arith, long, c.requires) in fits) _ c.if-start-r.true) ∙ c.loop-i.invariant.rest
+    sym (place_here _ _ _ none c.loop-i-test.true (let fits : c.args.count ≤ length c.args.ranges = let long : length c.args.ranges ≡ most = search rules in omega (arith, long, c.requires) in fits) _ c.if-start-r.true) ∙ c.loop-i.invariant.rest
 
 pub loop-i-preserved : goal.loop-i-preserved
 loop-i-preserved c =
-    record { upto = omega arith; rest = place_next _ _ _ none c.loop-i-test.true (let fits : c.args.count ≤ length c.args.t1 = let long : length c.args.t1 ≡ most = search rules in omega (arith, long, c.requires) in fits) _ c.if-start-r.false ∙ c.loop-i.invariant.rest }
+    record { upto = omega arith; rest = place_next _ _ _ none c.loop-i-test.true (let fits : c.args.count ≤ length c.args.ranges = let long : length c.args.ranges ≡ most = search rules in omega (arith, long, c.requires) in fits) _ c.if-start-r.false ∙ c.loop-i.invariant.rest }
 
 pub returns : goal.returns
 returns c = let inv = c.loop-i.invariant in le_antisymm c.loop-i-test.false inv.upto ∙ sym (place_end _ _ _ _ c.loop-i-test.false) ∙ inv.rest

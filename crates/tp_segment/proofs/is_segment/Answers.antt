@@ -11,17 +11,17 @@ use Rattle.tp_segment.proofs.is_segment.Goals as goal
 pub returns-then-s-lt-SEGMENT_HEADER_LEN : goal.returns-then-s-lt-SEGMENT_HEADER_LEN
 returns-then-s-lt-SEGMENT_HEADER_LEN c = sym (is_short _ c.if-s-lt-SEGMENT_HEADER_LEN.true)
 
-unfolding at16 at32
 pub returns-then-field-s : goal.returns-then-field-s
+unfolding at16 at32
 returns-then-field-s c =
     sym (is_length _ (let long : 20 ≤ length c.args.s.now = c.if-s-lt-SEGMENT_HEADER_LEN.false in long) (λ e. c.if-field-s.true ((let field : c.be32-field.result ≡ at32 c.args.s.now 4 = c.be32-field.ensures in field) ∙ e)))
 
-unfolding at16 at32
 pub returns-then-s-ne1 : goal.returns-then-s-ne1
+unfolding at16 at32
 returns-then-s-ne1 c =
     sym (is_version _ (let long : 20 ≤ length c.args.s.now = c.if-s-lt-SEGMENT_HEADER_LEN.false in long) (sym (let field : c.be32-field.result ≡ at32 c.args.s.now 4 = c.be32-field.ensures in field) ∙ c.if-field-s.false) c.if-s-ne1.true)
 
-unfolding at16 at32
 pub returns : goal.returns
+unfolding at16 at32
 returns c =
     c.tp_type.ensures ∙ sym (is_type _ (let long : 20 ≤ length c.args.s.now = c.if-s-lt-SEGMENT_HEADER_LEN.false in long) (sym (let field : c.be32-field.result ≡ at32 c.args.s.now 4 = c.be32-field.ensures in field) ∙ c.if-field-s.false) c.if-s-ne1.false)

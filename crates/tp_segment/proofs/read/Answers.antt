@@ -24,8 +24,8 @@ bounds-s-19 c = omega (arith, (let long : 20 ≤ length c.args.s.now = ((segment
 pub overflow_sub-result-then-is_segment : goal.overflow_sub-result-then-is_segment
 overflow_sub-result-then-is_segment c = omega (arith, (let long : 20 ≤ length c.args.s.now = ((segment_means _).0 (sym c.is_segment.ensures ∙ c.if-is_segment.true)).long in long))
 
-unfolding at16 at32
 pub returns-then-is_segment : goal.returns-then-is_segment
+unfolding at16 at32
 returns-then-is_segment c =
     reads_good _ _ (sym c.is_segment.ensures ∙ c.if-is_segment.true) (let word_is : c.be32-tp.result ≡ at32 c.args.s.now 16 = c.be32-tp.ensures in word_is)
 

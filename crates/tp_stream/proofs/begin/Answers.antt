@@ -4,7 +4,7 @@ use borrow.Author.Rules.{rules}
 use Rattle.tp_stream.proofs.begin.Goals as goal
 
 pub returns-in_default : goal.returns-in_default
-returns-in_default c = began_not _ _ _ _ c.enum_told-in_default-1.given.1 c.begun-answer.ensures c.fresh.ensures
+returns-in_default c = began_not _ _ _ _ c.in_default.is c.begun-answer.ensures c.fresh.ensures
 
 pub returns : goal.returns
-returns c = began_well _ _ _ c.enum_told-1.given.1 c.begun-answer.ensures c.fresh-2.ensures
+returns c = began_well _ _ _ c.in-Passed.is c.begun-answer.ensures c.fresh-2.ensures

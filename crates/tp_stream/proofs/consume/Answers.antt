@@ -9,10 +9,8 @@ use Rattle.tp_stream.proofs.consume.Goals as goal
 
 pub returns-in_default : goal.returns-in_default
 returns-in_default c =
-    let a = c.args in
-    ran_judged a.s a.seg.now a.buf.now _ _ _ c.judge-judged.ensures c.enum_told-1.given.1 c.refusal.ensures
+    ran_judged c.args.s c.args.seg.now c.args.buf.now _ _ _ c.judge-judged.ensures c.in_default.is c.refusal.ensures
 
 pub accept-requires : goal.accept-requires
 accept-requires c =
-    let a = c.args in
-    subst (Judges (view a.s) a.seg.now (length a.buf.now)) c.judged-1.given.1 c.judge-judged.ensures
+    subst (Judges (view c.args.s) c.args.seg.now (length c.args.buf.now)) c.in-Good.is c.judge-judged.ensures

@@ -16,16 +16,16 @@ pub returns-in_default : goal.returns-in_default
 unfolding given
 returns-in_default c =
     let buf = c.args.buf.now in
-    ap (λ (a : Answer ℕ). report a buf) (ap count_said (sym c.enum_told-1.given.1) ∙ c.ready.ensures)
+    ap (λ (a : Answer ℕ). report a buf) (ap count_said (sym c.in_default.is) ∙ c.ready.ensures)
 
 pub overflow_add-n : goal.overflow_add-n
-overflow_add-n c = omega (arith, ready_tells _ _ _ (let given_end : accepted c.end-1.given.0.0 ≡ ready (view c.args.s) (length c.args.buf.now) = ap count_said (sym c.end-1.given.1) ∙ c.ready.ensures in given_end))
+overflow_add-n c = omega (arith, ready_tells _ _ _ (let given_end : accepted c.in-Good.end ≡ ready (view c.args.s) (length c.args.buf.now) = ap count_said (sym c.in-Good.is) ∙ c.ready.ensures in given_end))
 
 pub slice_bounds-result-end-2 : goal.slice_bounds-result-end-2
-slice_bounds-result-end-2 c = sym (length-take-le _ _ (ready_tells _ _ _ (let given_end : accepted c.end-1.given.0.0 ≡ ready (view c.args.s) (length c.args.buf.now) = ap count_said (sym c.end-1.given.1) ∙ c.ready.ensures in given_end)).0)
+slice_bounds-result-end-2 c = sym (length-take-le _ _ (ready_tells _ _ _ (let given_end : accepted c.in-Good.end ≡ ready (view c.args.s) (length c.args.buf.now) = ap count_said (sym c.in-Good.is) ∙ c.ready.ensures in given_end)).0)
 
 pub returns : goal.returns
 unfolding given
 returns c =
     let buf = c.args.buf.now in
-    ap (λ (a : Answer ℕ). report a buf) (let given_end : accepted c.end-1.given.0.0 ≡ ready (view c.args.s) (length c.args.buf.now) = ap count_said (sym c.end-1.given.1) ∙ c.ready.ensures in given_end)
+    ap (λ (a : Answer ℕ). report a buf) (let given_end : accepted c.in-Good.end ≡ ready (view c.args.s) (length c.args.buf.now) = ap count_said (sym c.in-Good.is) ∙ c.ready.ensures in given_end)

@@ -14,10 +14,9 @@ use Rattle.tp_stream.proofs.take.Goals as goal
 
 pub returns-in_default : goal.returns-in_default
 returns-in_default c =
-    took_nothing c.args.s c.args.buf.now _ _ c.enum_told-1.given.1 c.ready-answer.ensures
+    took_nothing c.args.s c.args.buf.now _ _ c.in_default.is c.ready-answer.ensures
 
 pub returns : goal.returns
 returns c =
-    let a = c.args in
-    let tells = ready_tells _ _ _ (let given_end : accepted c.answer-1.given.0.0 ≡ ready (view c.args.s) (length c.args.buf.now) = ap count_said (sym c.answer-1.given.1) ∙ c.ready-answer.ensures in given_end) in
-    took_end a.s a.buf.now _ _ (let given_end : accepted c.answer-1.given.0.0 ≡ ready (view c.args.s) (length c.args.buf.now) = ap count_said (sym c.answer-1.given.1) ∙ c.ready-answer.ensures in given_end) (c.put_length.ensures ∙ length_fits a.buf.now _ (omega (arith, tells)) (omega (arith, tells)))
+    let tells = ready_tells _ _ _ (let given_end : accepted c.in-Good.end ≡ ready (view c.args.s) (length c.args.buf.now) = ap count_said (sym c.in-Good.is) ∙ c.ready-answer.ensures in given_end) in
+    took_end c.args.s c.args.buf.now _ _ (let given_end : accepted c.in-Good.end ≡ ready (view c.args.s) (length c.args.buf.now) = ap count_said (sym c.in-Good.is) ∙ c.ready-answer.ensures in given_end) (c.put_length.ensures ∙ length_fits c.args.buf.now _ (omega (arith, tells)) (omega (arith, tells)))

@@ -14,5 +14,4 @@ returns-then-stream-gt-MAX_RANGES c = put_many _ _ c.if-stream-gt-MAX_RANGES.tru
 pub returns : goal.returns
 unfolding words_of
 returns c =
-    let a = c.args in
-    put_both a.words.now a.stream c.if-words-lt-WORDS.false c.if-stream-gt-MAX_RANGES.false _ _ _ _ _ _ _ refl c.Known-of.ensures c.previous_end.ensures c.put_front.ensures c.put_ranges.ensures
+    put_both c.args.words.now c.args.stream c.if-words-lt-WORDS.false c.if-stream-gt-MAX_RANGES.false _ _ _ _ _ _ _ refl c.Known-of.ensures c.previous_end.ensures c.put_front.ensures c.put_ranges.ensures

@@ -10,25 +10,23 @@ use Rattle.tp_words.proofs.WordLaws.{laid_ends, laid, laid_starts, laid_length, 
 use Rattle.tp_words.proofs.put_ranges.Goals as goal
 
 pub loop-i-init : goal.loop-i-init
-loop-i-init c = (omega arith, laid_starts c.args.words.now c.args.t2)
+loop-i-init c = (omega arith, laid_starts c.args.words.now c.args.ranges)
 
 pub bounds-words-at : goal.bounds-words-at
-bounds-words-at c = omega (arith, (let long : length c.loop-i.words ≡ length c.args.words.now = ap length c.loop-i.invariant.1 ∙ laid_length c.args.words.now c.args.t2 (omega (arith, c.requires, (let many : length c.args.t2 ≡ most = search rules in many) c)) c.loop-i.i (omega (arith, (let many : length c.args.t2 ≡ most = search rules in many) c)) in long))
+bounds-words-at c = omega (arith, (let long : length c.loop-i.words ≡ length c.args.words.now = ap length c.loop-i.invariant.1 ∙ laid_length c.args.words.now c.args.ranges (omega (arith, c.requires, (let many : length c.args.ranges ≡ most = search rules in many))) c.loop-i.i (omega (arith, (let many : length c.args.ranges ≡ most = search rules in many))) in long))
 
 pub bounds-words-at-in-loop-i : goal.bounds-words-at-in-loop-i
-bounds-words-at-in-loop-i c = simp length-set (omega (arith, (let long : length c.loop-i.words ≡ length c.args.words.now = ap length c.loop-i.invariant.1 ∙ laid_length c.args.words.now c.args.t2 (omega (arith, c.requires, (let many : length c.args.t2 ≡ most = search rules in many) c)) c.loop-i.i (omega (arith, (let many : length c.args.t2 ≡ most = search rules in many) c)) in long)))
+bounds-words-at-in-loop-i c = simp length-set (omega (arith, (let long : length c.loop-i.words ≡ length c.args.words.now = ap length c.loop-i.invariant.1 ∙ laid_length c.args.words.now c.args.ranges (omega (arith, c.requires, (let many : length c.args.ranges ≡ most = search rules in many))) c.loop-i.i (omega (arith, (let many : length c.args.ranges ≡ most = search rules in many))) in long)))
 
 pub bounds-words-at-in-loop-i-2 : goal.bounds-words-at-in-loop-i-2
-bounds-words-at-in-loop-i-2 c = simp length-set (omega (arith, (let long : length c.loop-i.words ≡ length c.args.words.now = ap length c.loop-i.invariant.1 ∙ laid_length c.args.words.now c.args.t2 (omega (arith, c.requires, (let many : length c.args.t2 ≡ most = search rules in many) c)) c.loop-i.i (omega (arith, (let many : length c.args.t2 ≡ most = search rules in many) c)) in long)))
+bounds-words-at-in-loop-i-2 c = simp length-set (omega (arith, (let long : length c.loop-i.words ≡ length c.args.words.now = ap length c.loop-i.invariant.1 ∙ laid_length c.args.words.now c.args.ranges (omega (arith, c.requires, (let many : length c.args.ranges ≡ most = search rules in many))) c.loop-i.i (omega (arith, (let many : length c.args.ranges ≡ most = search rules in many))) in long)))
 
 pub loop-i-preserved : goal.loop-i-preserved
 unfolding flat
 loop-i-preserved c =
-    let a = c.args in
-    (omega arith, laid_more a.words.now a.t2 (omega (arith, c.requires, (let many : length c.args.t2 ≡ most = search rules in many))) c.loop-i.i _ _ _ (omega (arith, (let many : length c.args.t2 ≡ most = search rules in many))) refl c.loop-i.words c.loop-i.invariant.1)
+    (omega arith, laid_more c.args.words.now c.args.ranges (omega (arith, c.requires, (let many : length c.args.ranges ≡ most = search rules in many))) c.loop-i.i _ _ _ (omega (arith, (let many : length c.args.ranges ≡ most = search rules in many))) refl c.loop-i.words c.loop-i.invariant.1)
 
 pub returns : goal.returns
 returns c =
-    let a = c.args in
     let done : c.loop-i.i ≡ most = omega arith in
-    laid_ends a.words.now a.t2 c.loop-i.words most (let many : length c.args.t2 ≡ most = search rules in many) (c.loop-i.invariant.1 ∙ ap (laid a.words.now a.t2) done)
+    laid_ends c.args.words.now c.args.ranges c.loop-i.words most (let many : length c.args.ranges ≡ most = search rules in many) (c.loop-i.invariant.1 ∙ ap (laid c.args.words.now c.args.ranges) done)

@@ -3,4 +3,4 @@ use borrow.Author.Rules.{rules}
 use Rattle.config_string.proofs.classes.class_of.Goals as goal
 
 pub returns : goal.returns
-returns c =c.requires.at c.args.b c.ranges.b.fits
+returns c = c.requires.at c.args.b c.ranges.b.fits

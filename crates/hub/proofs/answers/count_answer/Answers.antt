@@ -10,7 +10,7 @@ use borrow.Author.Rules.{rules}
 use Rattle.hub.proofs.answers.count_answer.Goals as goal
 
 pub returns-in-Good : goal.returns-in-Good
-returns-in-Good c = arm (λ (v : Count). told one_value (count_said v)) (rowed (refusal 0 (c.count-1.given.0.0 ∷ [])) c.one.ensures c.answer_of.ensures) c.count-1.given.1
+returns-in-Good c = arm (λ (v : Count). told one_value (count_said v)) (rowed (refusal 0 (c.in-Good.n ∷ [])) c.one.ensures c.answer_of.ensures) c.in-Good.is
 
 pub returns-in-Refused : goal.returns-in-Refused
-returns-in-Refused c = arm (λ (v : Count). told one_value (count_said v)) c.refused.ensures c.count-in-Refused-1.given.1
+returns-in-Refused c = arm (λ (v : Count). told one_value (count_said v)) c.refused.ensures c.in-Refused.is

@@ -6,4 +6,4 @@ use borrow.Author.Rules.{rules}
 use Rattle.hub.proofs.answers.head_answer.Goals as goal
 
 pub returns : goal.returns
-returns c = let a = c.args in rowed (refusal 0 (head_values a.at a.head)) c.three.ensures c.answer_of.ensures
+returns c = rowed (refusal 0 (head_values c.args.at c.args.head)) c.three.ensures c.answer_of.ensures

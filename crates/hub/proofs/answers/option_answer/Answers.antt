@@ -7,7 +7,7 @@ use borrow.Author.Rules.{rules}
 use Rattle.hub.proofs.answers.option_answer.Goals as goal
 
 pub returns-in-Good : goal.returns-in-Good
-returns-in-Good c = arm (λ (a : OptionAnswer). told (head_values c.args.at) (option_said a)) c.head_answer.ensures c.answer-1.given.1
+returns-in-Good c = arm (λ (a : OptionAnswer). told (head_values c.args.at) (option_said a)) c.head_answer.ensures c.in-Good.is
 
 pub returns-in-Refused : goal.returns-in-Refused
-returns-in-Refused c = arm (λ (a : OptionAnswer). told (head_values c.args.at) (option_said a)) c.refused.ensures c.answer-in-Refused-1.given.1
+returns-in-Refused c = arm (λ (a : OptionAnswer). told (head_values c.args.at) (option_said a)) c.refused.ensures c.in-Refused.is

@@ -10,8 +10,7 @@ use Rattle.hub.proofs.answers.range_answer.Goals as goal
 
 pub returns-in-Good : goal.returns-in-Good
 returns-in-Good c =
-    let given = c.answer-1.given in
-    arm (λ (a : RangeAnswer). told range_values (range_said a)) (rowed (refusal 0 (range_values given.0.0)) c.three.ensures c.answer_of.ensures) given.1
+    arm (λ (a : RangeAnswer). told range_values (range_said a)) (rowed (refusal 0 (range_values c.in-Good.range)) c.three.ensures c.answer_of.ensures) c.in-Good.is
 
 pub returns-in-Refused : goal.returns-in-Refused
-returns-in-Refused c = arm (λ (a : RangeAnswer). told range_values (range_said a)) c.refused.ensures c.answer-in-Refused-1.given.1
+returns-in-Refused c = arm (λ (a : RangeAnswer). told range_values (range_said a)) c.refused.ensures c.in-Refused.is

@@ -7,7 +7,7 @@ use borrow.Author.Rules.{rules}
 use Rattle.hub.proofs.answers.verdict_answer.Goals as goal
 
 pub returns-in-Passed : goal.returns-in-Passed
-returns-in-Passed c = arm (λ (v : Verdict). told no_values (verdict_said v)) c.accepted.ensures c.enum_told-1.given.1
+returns-in-Passed c = arm (λ (v : Verdict). told no_values (verdict_said v)) c.accepted.ensures c.in-Passed.is
 
 pub returns-in-Refused : goal.returns-in-Refused
-returns-in-Refused c = arm (λ (v : Verdict). told no_values (verdict_said v)) c.refused.ensures c.verdict-1.given.1
+returns-in-Refused c = arm (λ (v : Verdict). told no_values (verdict_said v)) c.refused.ensures c.in-Refused.is

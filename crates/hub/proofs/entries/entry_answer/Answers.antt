@@ -8,7 +8,7 @@ use Rattle.hub.proofs.Arms.{arm}
 use Rattle.hub.proofs.entries.entry_answer.Goals as goal
 
 pub returns-in-Good : goal.returns-in-Good
-returns-in-Good c = arm (λ (a : EntryAnswer). entry_told (answer_said a)) c.entry_fields.ensures c.answer-1.given.1
+returns-in-Good c = arm (λ (a : EntryAnswer). entry_told (answer_said a)) c.entry_fields.ensures c.in-Good.is
 
 pub returns-in-Refused : goal.returns-in-Refused
-returns-in-Refused c = arm (λ (a : EntryAnswer). entry_told (answer_said a)) (c.no_entry.ensures ∙ ap no_entry c.refused.ensures) c.answer-in-Refused-1.given.1
+returns-in-Refused c = arm (λ (a : EntryAnswer). entry_told (answer_said a)) (c.no_entry.ensures ∙ ap no_entry c.refused.ensures) c.in-Refused.is

@@ -7,7 +7,7 @@ use Rattle.hub.proofs.Arms.{arm}
 use Rattle.hub.proofs.entries.entry_fields.Goals as goal
 
 pub returns-in-Service : goal.returns-in-Service
-returns-in-Service c = arm (λ (a : SdEntry). entry_fields (entry_said a)) c.service_fields.ensures c.entry-1.given.1
+returns-in-Service c = arm (λ (a : SdEntry). entry_fields (entry_said a)) c.service_fields.ensures c.in-Service.is
 
 pub returns-in-Eventgroup : goal.returns-in-Eventgroup
-returns-in-Eventgroup c = arm (λ (a : SdEntry). entry_fields (entry_said a)) c.eventgroup_fields.ensures c.entry-in-Eventgroup-1.given.1
+returns-in-Eventgroup c = arm (λ (a : SdEntry). entry_fields (entry_said a)) c.eventgroup_fields.ensures c.in-Eventgroup.is

@@ -7,7 +7,7 @@ use Rattle.hub.proofs.Arms.{arm}
 use Rattle.hub.proofs.entries.eventgroup_fields.Goals as goal
 
 pub returns-in-SubscribeOrStop : goal.returns-in-SubscribeOrStop
-returns-in-SubscribeOrStop c = arm (λ (a : EventGroupEntryType). entry_fields (eventgroup_said a (head_said c.args.head) (group_said c.args.group))) c.fields_of.ensures c.enum_told-1.given.1
+returns-in-SubscribeOrStop c = arm (λ (a : EventGroupEntryType). entry_fields (eventgroup_said a (head_said c.args.head) (group_said c.args.group))) c.fields_of.ensures c.in-SubscribeOrStop.is
 
 pub returns-in-SubscribeAckOrNack : goal.returns-in-SubscribeAckOrNack
-returns-in-SubscribeAckOrNack c = arm (λ (a : EventGroupEntryType). entry_fields (eventgroup_said a (head_said c.args.head) (group_said c.args.group))) c.fields_of-in-SubscribeAckOrNack.ensures c.enum_told-in-SubscribeAckOrNack-1.given.1
+returns-in-SubscribeAckOrNack c = arm (λ (a : EventGroupEntryType). entry_fields (eventgroup_said a (head_said c.args.head) (group_said c.args.group))) c.fields_of-in-SubscribeAckOrNack.ensures c.in-SubscribeAckOrNack.is

@@ -5,5 +5,4 @@ use Rattle.hub.proofs.entries.fields_of.Goals as goal
 
 pub returns : goal.returns
 returns c =
-    let a = c.args in
-    fields_made _ a.head _ a.group _ _ c.accepted.ensures c.bit.ensures
+    fields_made _ c.args.head _ c.args.group _ _ c.accepted.ensures c.bit.ensures

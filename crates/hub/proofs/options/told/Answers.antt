@@ -5,5 +5,4 @@ use Rattle.hub.proofs.options.told.Goals as goal
 
 pub returns : goal.returns
 returns c =
-    let a = c.args in
-    option_made a.code a.size a.first a.priority a.weight a.address a.protocol a.port a.string _ _ c.accepted.ensures c.bit.ensures
+    option_made c.args.code c.args.size c.args.first c.args.priority c.args.weight c.args.address c.args.protocol c.args.port c.args.string _ _ c.accepted.ensures c.bit.ensures

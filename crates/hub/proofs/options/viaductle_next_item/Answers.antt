@@ -21,19 +21,19 @@ found c same = ap count_said (sym same) ∙ c.next_item-answer.ensures
 
 pub overflow_add-start : goal.overflow_add-start
 overflow_add-start c =
-    let (item, is, behind) = next_behind _ _ _ (found c c.answer-1.given.1) in
+    let (item, is, behind) = next_behind _ _ _ (found c c.in-Good.is) in
     omega arith
 
 pub overflow_sub-next : goal.overflow_sub-next
 overflow_sub-next c =
-    let (item, is, behind) = next_behind _ _ _ (found c c.answer-1.given.1) in
+    let (item, is, behind) = next_behind _ _ _ (found c c.in-Good.is) in
     omega arith
 
 pub returns-in-Good : goal.returns-in-Good
 returns-in-Good c =
-    rowed (refusal 0 ((c.args.at + 1) ∷ (c.answer-1.given.0.0 - (c.args.at + 1)) ∷ [])) c.two.ensures c.answer_of.ensures
-    ∙ item_told _ _ _ (found c c.answer-1.given.1)
+    rowed (refusal 0 ((c.args.at + 1) ∷ (c.in-Good.next - (c.args.at + 1)) ∷ [])) c.two.ensures c.answer_of.ensures
+    ∙ item_told _ _ _ (found c c.in-Good.is)
 
 pub returns-in-Refused : goal.returns-in-Refused
 returns-in-Refused c =
-    c.refused.ensures ∙ none_told _ _ _ (found c c.answer-in-Refused-1.given.1)
+    c.refused.ensures ∙ none_told _ _ _ (found c c.in-Refused.is)

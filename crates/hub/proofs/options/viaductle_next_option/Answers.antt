@@ -9,8 +9,7 @@ use Rattle.hub.proofs.options.viaductle_next_option.Goals as goal
 
 pub returns : goal.returns
 returns c =
-    let args = c.args in
     c.option_answer.ensures
     ∙ ap (told (head_values _)) c.next-step.ensures.answer
     ∙ headed_told _ _
-    ∙ ap (λ (g : Settings). told (option_values args.at) (next_option g args.options.now args.at)) c.settings_of.ensures
+    ∙ ap (λ (g : Settings). told (option_values c.args.at) (next_option g c.args.options.now c.args.at)) c.settings_of.ensures

@@ -28,14 +28,14 @@ told_by c {here} same =
 
 pub fields_of-requires : goal.fields_of-requires
 fields_of-requires c =
-    four_bytes (setting c) c.args.option.now _ (told_by c c.answer-1.given.1)
+    four_bytes (setting c) c.args.option.now _ (told_by c c.in-Good.is)
 
 pub returns-in-Good : goal.returns-in-Good
 unfolding read_option_told
 returns-in-Good c =
-    c.fields_of.ensures (rest_of (setting c) c.args.option.now) ∙ ap option_told (told_by c c.answer-1.given.1)
+    c.fields_of.ensures (rest_of (setting c) c.args.option.now) ∙ ap option_told (told_by c c.in-Good.is)
 
 pub returns-in-Refused : goal.returns-in-Refused
 unfolding read_option_told
 returns-in-Refused c =
-    c.no_option.ensures ∙ ap no_option c.refused.ensures ∙ ap option_told (told_by c c.answer-in-Refused-1.given.1)
+    c.no_option.ensures ∙ ap no_option c.refused.ensures ∙ ap option_told (told_by c c.in-Refused.is)

@@ -14,11 +14,10 @@ use Rattle.hub.proofs.payload.payload_answer.Goals as goal
 
 pub returns-in-Good : goal.returns-in-Good
 returns-in-Good c =
-    let p = c.answer-1.given.0.0 in
     arm (λ (a : PayloadAnswer). told summary_values (payload_said a))
-    (rowed (refusal 0 (c.flag_bits.result ∷ p.entries ∷ p.options ∷ [])) c.three.ensures c.answer_of.ensures
-    ∙ ap (λ (bits : ℕ). row 0 (bits ∷ p.entries ∷ p.options ∷ [])) c.flag_bits.ensures)
-    c.answer-1.given.1
+    (rowed (refusal 0 (c.flag_bits.result ∷ c.in-Good.payload.entries ∷ c.in-Good.payload.options ∷ [])) c.three.ensures c.answer_of.ensures
+    ∙ ap (λ (bits : ℕ). row 0 (bits ∷ c.in-Good.payload.entries ∷ c.in-Good.payload.options ∷ [])) c.flag_bits.ensures)
+    c.in-Good.is
 
 pub returns-in-Refused : goal.returns-in-Refused
-returns-in-Refused c = arm (λ (a : PayloadAnswer). told summary_values (payload_said a)) c.refused.ensures c.answer-in-Refused-1.given.1
+returns-in-Refused c = arm (λ (a : PayloadAnswer). told summary_values (payload_said a)) c.refused.ensures c.in-Refused.is

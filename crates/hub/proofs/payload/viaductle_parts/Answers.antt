@@ -19,14 +19,14 @@ returns-then-answer-ne0 c = c.nowhere.ensures ∙ none_after_refusal _ _ c.if-an
 
 pub returns-in_default : goal.returns-in_default
 returns-in_default c =
-    c.nowhere-in_default.ensures ∙ none_of_bad_sizes _ _ _ c.if-answer-ne0.false (judged c c.enum_told-1.given.1)
+    c.nowhere-in_default.ensures ∙ none_of_bad_sizes _ _ _ c.if-answer-ne0.false (judged c c.in_default.is)
 
 pub overflow_add-from : goal.overflow_add-from
-overflow_add-from c = omega (arith, parts _ _ (judged c c.sizes-1.given.1))
+overflow_add-from c = omega (arith, parts _ _ (judged c c.in-Good.is))
 
 pub overflow_sub-result : goal.overflow_sub-result
-overflow_sub-result c = omega (arith, parts _ _ (judged c c.sizes-1.given.1))
+overflow_sub-result c = omega (arith, parts _ _ (judged c c.in-Good.is))
 
 pub returns : goal.returns
 returns c =
-    placed_there _ _ _ c.if-answer-ne0.false (judged c c.sizes-1.given.1)
+    placed_there _ _ _ c.if-answer-ne0.false (judged c c.in-Good.is)

@@ -6,14 +6,12 @@ use Rattle.hub.proofs.tp.viaductle_take.Goals as goal
 
 pub returns-in_default : goal.returns-in_default
 returns-in_default c =
-    let a = c.args in
-    taken_not a.words.now a.buffer.now _ _ c.take-answer.ensures _ _ c.enum_told-1.given.1 c.count_answer.ensures
+    taken_not c.args.words.now c.args.buffer.now _ _ c.take-answer.ensures _ _ c.in_default.is c.count_answer.ensures
 
 pub overflow_add-length : goal.overflow_add-length
 overflow_add-length c =
-    omega (arith, taken_low c.args.words.now c.args.buffer.now _ _ c.take-answer.ensures _ c.answer-1.given.1)
+    omega (arith, taken_low c.args.words.now c.args.buffer.now _ _ c.take-answer.ensures _ c.in-Good.is)
 
 pub returns : goal.returns
 returns c =
-    let a = c.args in
-    taken a.words.now a.buffer.now _ _ c.take-answer.ensures _ _ c.answer-1.given.1 c.count_answer-2.ensures
+    taken c.args.words.now c.args.buffer.now _ _ c.take-answer.ensures _ _ c.in-Good.is c.count_answer-2.ensures

@@ -9,8 +9,7 @@ use Rattle.replay.proofs.counts.count.Goals as goal
 
 pub returns-then-i-counts : goal.returns-then-i-counts
 returns-then-i-counts c =
-    let a = c.args in
-    ap (set a.counts.now a.place) c.one_more.ensures
+    ap (set c.args.counts.now c.args.place) c.one_more.ensures
 
 pub returns-else-i-counts : goal.returns-else-i-counts
 returns-else-i-counts c =

@@ -8,6 +8,5 @@ use Rattle.replay.proofs.record.check.Goals as goal
 
 pub returns : goal.returns
 returns c =
-    let a = c.args in
     c.word.ensures
-    ∙ ap₂ {C = ℕ} (λ m n. word_of a.s.now (m + n + a.place)) c.byte.ensures c.byte-2.ensures
+    ∙ ap₂ {C = ℕ} (λ m n. word_of c.args.s.now (m + n + c.args.place)) c.byte.ensures c.byte-2.ensures

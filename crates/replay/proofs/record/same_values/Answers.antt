@@ -14,15 +14,15 @@ loop-i-init c = (search rules, refl)
 
 pub returns-then-x-i : goal.returns-then-x-i
 returns-then-x-i c =
-    let l = (let long : (length c.args.t1 ≡ places) × (length c.args.t2 ≡ places) = (search rules, search rules) in long) in
-    sym (c.loop-i.invariant.1 ∙ equal_differs c.args.t1 c.args.t2 c.loop-i.i (omega arith) (omega arith) c.if-x-i.true)
+    let l = (let long : (length c.args.x ≡ places) × (length c.args.y ≡ places) = (search rules, search rules) in long) in
+    sym (c.loop-i.invariant.1 ∙ equal_differs c.args.x c.args.y c.loop-i.i (omega arith) (omega arith) c.if-x-i.true)
 
 pub loop-i-preserved : goal.loop-i-preserved
 loop-i-preserved c =
-    let l = (let long : (length c.args.t1 ≡ places) × (length c.args.t2 ≡ places) = (search rules, search rules) in long) in (
+    let l = (let long : (length c.args.x ≡ places) × (length c.args.y ≡ places) = (search rules, search rules) in long) in (
       search rules,
-      c.loop-i.invariant.1 ∙ equal_goes_on c.args.t1 c.args.t2 c.loop-i.i (omega arith) (omega arith) c.if-x-i.false,
+      c.loop-i.invariant.1 ∙ equal_goes_on c.args.x c.args.y c.loop-i.i (omega arith) (omega arith) c.if-x-i.false,
     )
 
 pub returns : goal.returns
-returns c = let l = (let long : (length c.args.t1 ≡ places) × (length c.args.t2 ≡ places) = (search rules, search rules) in long) in equal_end c.args.t1 c.args.t2 c.loop-i.i (omega arith) (omega arith) ∙ sym c.loop-i.invariant.1
+returns c = let l = (let long : (length c.args.x ≡ places) × (length c.args.y ≡ places) = (search rules, search rules) in long) in equal_end c.args.x c.args.y c.loop-i.i (omega arith) (omega arith) ∙ sym c.loop-i.invariant.1

@@ -9,10 +9,9 @@ use Rattle.replay.proofs.record.value.Goals as goal
 
 pub returns-then-place-byte : goal.returns-then-place-byte
 returns-then-place-byte c =
-    let a = c.args in
     c.word.ensures
-    ∙ ap (λ (n : ℕ). word_of a.s.now (n + a.place)) c.byte-then-place-byte.ensures
-    ∙ value_there a.s.now a.place (omega arith)
+    ∙ ap (λ (n : ℕ). word_of c.args.s.now (n + c.args.place)) c.byte-then-place-byte.ensures
+    ∙ value_there c.args.s.now c.args.place (omega arith)
 
 pub returns : goal.returns
 returns c = value_past c.args.s.now c.args.place (omega arith)

@@ -13,14 +13,13 @@ loop-i-init c = (omega arith, refl)
 
 pub loop-i-preserved : goal.loop-i-preserved
 loop-i-preserved c =
-    let a = c.args in (
+(
       omega arith,
       c.loop-i.invariant.1
-          ∙ sum_step c.loop-i.s a.bytes.now c.loop-i.i (omega arith)
-          ∙ ap (λ (s : ℕ). sum_bytes s (drop (c.loop-i.i + 1) a.bytes.now)) (sym c.add_byte-s.ensures),
+          ∙ sum_step c.loop-i.s c.args.bytes.now c.loop-i.i (omega arith)
+          ∙ ap (λ (s : ℕ). sum_bytes s (drop (c.loop-i.i + 1) c.args.bytes.now)) (sym c.add_byte-s.ensures),
     )
 
 pub returns : goal.returns
 returns c =
-    let a = c.args in
-    sym (c.loop-i.invariant.1 ∙ sum_end c.loop-i.s a.bytes.now c.loop-i.i (omega arith))
+    sym (c.loop-i.invariant.1 ∙ sum_end c.loop-i.s c.args.bytes.now c.loop-i.i (omega arith))

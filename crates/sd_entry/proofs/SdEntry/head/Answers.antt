@@ -4,7 +4,7 @@ use Rattle.sd_entry.proofs.Laws.{head_field_said}
 use Rattle.sd_entry.proofs.SdEntry.head.Goals as goal
 
 pub returns-in-Service : goal.returns-in-Service
-returns-in-Service c = head_field_said c.self-1.given.1
+returns-in-Service c = head_field_said c.in-Service.is
 
 pub returns-in-Eventgroup : goal.returns-in-Eventgroup
-returns-in-Eventgroup c = head_field_said c.self-in-Eventgroup-1.given.1
+returns-in-Eventgroup c = head_field_said c.in-Eventgroup.is

@@ -10,12 +10,12 @@ pub returns-then-s-lt-ENTRY_LEN : goal.returns-then-s-lt-ENTRY_LEN
 returns-then-s-lt-ENTRY_LEN c = sym (placed_refused _ _ _ (read_short _ c.if-s-lt-ENTRY_LEN.true))
 
 pub returns-in_default : goal.returns-in_default
-returns-in_default c = sym (placed_refused _ _ _ (read_unknown _ c.if-s-lt-ENTRY_LEN.false (omega arith) (inl c.if-code-lt6.true)))
+returns-in_default c = sym (placed_refused _ _ _ (read_unknown _ c.if-s-lt-ENTRY_LEN.false (omega arith) (inl c.in_default.if-code-lt6-own.true)))
 
 pub returns-in_default-2 : goal.returns-in_default-2
-returns-in_default-2 c = sym (placed_refused _ _ _ (read_unknown _ c.if-s-lt-ENTRY_LEN.false (omega arith) (inr c.if-code-lt8.false)))
+returns-in_default-2 c = sym (placed_refused _ _ _ (read_unknown _ c.if-s-lt-ENTRY_LEN.false (omega arith) (inr c.in_default.if-code-lt8-own.false)))
 
 pub returns-in-0-to-1 : goal.returns-in-0-to-1
 returns-in-0-to-1 c =
     c.judge_runs.ensures
-    ∙ sym (placed_known _ _ c.if-s-lt-ENTRY_LEN.false (⊎_elim (λ w. inl (omega arith)) (λ w. inr (omega arith, omega arith)) c.in-0-to-1-1.branch))
+    ∙ sym (placed_known _ _ c.if-s-lt-ENTRY_LEN.false (⊎_elim (λ w. inl (omega arith)) (λ w. inr (omega arith, omega arith)) c.if-code-lt2.branch))

@@ -21,29 +21,26 @@ plain = record { discard = false; strict = false }
 
 pub returns-then-count-place : goal.returns-then-count-place
 returns-then-count-place c =
-    let args = c.args in
-    past_count args.options.now args.table.now args.count args.ordinal.0 (omega arith)
+    past_count c.args.options.now c.args.table.now c.args.count c.args.ordinal.0 (omega arith)
 
 pub returns-then-place-ge-SLOTS : goal.returns-then-place-ge-SLOTS
 returns-then-place-ge-SLOTS c =
-    let args = c.args in
-    past_slots args.options.now args.table.now args.count args.ordinal.0 (omega arith) (omega arith)
+    past_slots c.args.options.now c.args.table.now c.args.count c.args.ordinal.0 (omega arith) (omega arith)
 
 pub returns-then-table-place : goal.returns-then-table-place
 returns-then-table-place c =
-    let args = c.args in
-    past_table args.options.now args.table.now args.count args.ordinal.0 (omega arith) (omega arith) (omega arith)
+    past_table c.args.options.now c.args.table.now c.args.count c.args.ordinal.0 (omega arith) (omega arith) (omega arith)
 
 pub returns-in_default : goal.returns-in_default
 unfolding misfit given
 returns-in_default c =
     let args = c.args in
-    sym (ap (by_table args.table.now args.ordinal.0) ((let looks : look_up c.args.options.now c.args.table.now c.args.count c.args.ordinal.0 ≡ misfit (one_option (protocol_verdict plain) c.option_at.result.now) = by_slot c.args.options.now c.args.table.now c.args.count c.args.ordinal.0 (omega arith) (omega arith) (omega arith) ∙ sym (ap misfit (lookup_reads plain _ refl ∙ ap (one_option unscanned) c.option_at.ensures)) in looks) ∙ ap misfit (not_found (protocol_verdict plain) _ _ c.read_option_unscanned-answer.ensures _ c.enum_told-1.given.1)))
+    sym (ap (by_table args.table.now args.ordinal.0) ((let looks : look_up c.args.options.now c.args.table.now c.args.count c.args.ordinal.0 ≡ misfit (one_option (protocol_verdict plain) c.option_at.result.now) = by_slot c.args.options.now c.args.table.now c.args.count c.args.ordinal.0 (omega arith) (omega arith) (omega arith) ∙ sym (ap misfit (lookup_reads plain _ refl ∙ ap (one_option unscanned) c.option_at.ensures)) in looks) ∙ ap misfit (not_found (protocol_verdict plain) _ _ c.read_option_unscanned-answer.ensures _ c.in_default.is)))
 
 pub returns : goal.returns
 unfolding misfit given
 returns c =
     let args = c.args in
-    let t = found (protocol_verdict plain) _ _ c.read_option_unscanned-answer.ensures _ c.answer-1.given.1 in
+    let t = found (protocol_verdict plain) _ _ c.read_option_unscanned-answer.ensures _ c.in-Good.is in
     sym (ap (by_table args.table.now args.ordinal.0) ((let looks : look_up c.args.options.now c.args.table.now c.args.count c.args.ordinal.0 ≡ misfit (one_option (protocol_verdict plain) c.option_at.result.now) = by_slot c.args.options.now c.args.table.now c.args.count c.args.ordinal.0 (omega arith) (omega arith) (omega arith) ∙ sym (ap misfit (lookup_reads plain _ refl ∙ ap (one_option unscanned) c.option_at.ensures)) in looks) ∙ ap misfit t.reads)
     ∙ ap (λ (h : OptionHead). accepted (record { offset = record { 0 = get_or args.table.now args.ordinal.0 0 }; head = h })) t.head)

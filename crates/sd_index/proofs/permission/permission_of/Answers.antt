@@ -18,7 +18,7 @@ use Rattle.sd_index.proofs.permission.permission_of.Goals.{In-Unknown}
 told : (c : In-Unknown)
     → further c.args.at.0 (permit_told (settings_said c.args.settings) c.args.head)
     ≡ by_bits c.args.at.0 c.args.head.code c.args.settings.discard_unknown_option c.args.head.discardable
-told c = unknown_told _ _ _ (sym c.kind_of-kind.ensures ∙ ap kind_said c.enum_told-1.given.1)
+told c = unknown_told _ _ _ (sym c.kind_of-kind.ensures ∙ ap kind_said c.in-Unknown.is)
 
 pub returns-in_default : goal.returns-in_default
 returns-in_default c =
@@ -27,17 +27,14 @@ returns-in_default c =
 pub returns-then-settings : goal.returns-then-settings
 unfolding by_bits refuse◌when◌else◌ further
 returns-then-settings c =
-    let args = c.args in
-    sym (told c ∙ ap (λ (b : Bool). by_bits args.at.0 args.head.code b args.head.discardable) c.if-settings.true)
+    sym (told c ∙ ap (λ (b : Bool). by_bits c.args.at.0 c.args.head.code b c.args.head.discardable) c.if-settings.true)
 
 pub returns-then-head : goal.returns-then-head
 unfolding by_bits refuse◌when◌else◌ further
 returns-then-head c =
-    let args = c.args in
-    sym (told c ∙ ap₂ (by_bits args.at.0 args.head.code) c.if-settings.false c.if-head.true)
+    sym (told c ∙ ap₂ (by_bits c.args.at.0 c.args.head.code) c.if-settings.false c.if-head.true)
 
 pub returns : goal.returns
 unfolding by_bits refuse◌when◌else◌ further
 returns c =
-    let args = c.args in
-    sym (told c ∙ ap₂ (by_bits args.at.0 args.head.code) c.if-settings.false c.if-head.false)
+    sym (told c ∙ ap₂ (by_bits c.args.at.0 c.args.head.code) c.if-settings.false c.if-head.false)

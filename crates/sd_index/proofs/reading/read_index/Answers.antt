@@ -11,5 +11,4 @@ use Rattle.sd_index.proofs.reading.read_index.Goals as goal
 
 pub returns : goal.returns
 returns c =
-    let a = c.args in
-    subst (λ (x : Answer (List Frame)). Indexed x a.table.now c.read_options.new.1.1.0 c.read_options.result) (indexed_alone (settings_said a.settings) a.options.now) c.read_options.ensures
+    subst (λ (x : Answer (List Frame)). Indexed x c.args.table.now c.read_options.new.1.1.0 c.read_options.result) (indexed_alone (settings_said c.args.settings) c.args.options.now) c.read_options.ensures

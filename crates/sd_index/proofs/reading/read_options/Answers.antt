@@ -14,8 +14,8 @@ returns-then-options-gt-MAX_OPTIONS_LEN c =
 pub returns-in_default : goal.returns-in_default
 returns-in_default c =
     swept_refused _ _ _ _ _ c.if-table-lt-SLOTS.false c.if-options-gt-MAX_OPTIONS_LEN.false c.clear_slots.ensures _ c.sweep-answer.ensures
-    _ c.enum_told-in_default-1.given.1 (omega arith) _ c.clear_slots-in_default.ensures
+    _ c.in_default.is (omega arith) _ c.clear_slots-in_default.ensures
 
 pub returns : goal.returns
 returns c =
-    swept_good _ _ _ _ _ c.if-table-lt-SLOTS.false c.if-options-gt-MAX_OPTIONS_LEN.false c.clear_slots.ensures _ c.sweep-answer.ensures _ c.enum_told-1.given.1
+    swept_good _ _ _ _ _ c.if-table-lt-SLOTS.false c.if-options-gt-MAX_OPTIONS_LEN.false c.clear_slots.ensures _ c.sweep-answer.ensures _ c.in-Good.is

@@ -37,20 +37,20 @@ told c = c.read_option_unscanned-answer.ensures ∙ ap (λ (b : List ℕ). given
 
 -- but for its string
 here : (c : In-Good)
-    → Found (protocol_verdict (setting c)) (rest c) c.answer-1.given.0.0
-here c = found (protocol_verdict _) _ _ (told c) _ c.answer-1.given.1
+    → Found (protocol_verdict (setting c)) (rest c) c.in-Good.head
+here c = found (protocol_verdict _) _ _ (told c) _ c.in-Good.is
 
 string_told : (c : After-scan-string)
     → verdict_said c.scan-string.result
-    ≡ string_verdict (kind_of c.answer-1.given.0.0.code) (behind_type (rest c) c.answer-1.given.0.0.size)
+    ≡ string_verdict (kind_of c.in-Good.head.code) (behind_type (rest c) c.in-Good.head.size)
 string_told c =
-    let head = c.answer-1.given.0.0 in
+    let head = c.in-Good.head in
     c.scan-string.ensures ∙ ap (λ (b : List ℕ). string_verdict (kind_of head.code) (behind_type b head.size)) c.option_at-rest.ensures
 
 -- with its string
 whole : (c : In-Passed)
-    → Found (judge_content (setting c)) (rest c) c.answer-1.given.0.0
-whole c =string_passed _ _ _ (here c) _ (string_told c) c.enum_told-in-Passed-1.given.1
+    → Found (judge_content (setting c)) (rest c) c.in-Good.head
+whole c =string_passed _ _ _ (here c) _ (string_told c) c.in-Passed.is
 
 pub loop-at-init : goal.loop-at-init
 loop-at-init c = turn_starts _ _ _
@@ -58,19 +58,17 @@ loop-at-init c = turn_starts _ _ _
 pub returns-in_default : goal.returns-in_default
 returns-in_default c =
     let at : ℕ = c.loop-at.at.0 in
-    let why = c.enum_told-1.given in
-    let r = said why.0.0 in
-    turn_stops c.loop-at.invariant c.loop-at-test.true r r at (refused_before _ _ _ (not_found (protocol_verdict _) _ _ (told c) _ why.1)) refl (omega arith)
-    c.moved.result (c.moved.ensures ∙ ap (λ (x : Refusal). moved_capped at (said x)) (c.refusal.ensures ∙ ap option_refusal why.1))
+    let r = said c.in_default.field-0 in
+    turn_stops c.loop-at.invariant c.loop-at-test.true r r at (refused_before _ _ _ (not_found (protocol_verdict _) _ _ (told c) _ c.in_default.is)) refl (omega arith)
+    c.moved.result (c.moved.ensures ∙ ap (λ (x : Refusal). moved_capped at (said x)) (c.refusal.ensures ∙ ap option_refusal c.in_default.is))
 
 pub returns-in_default-string : goal.returns-in_default-string
 returns-in_default-string c =
     let at : ℕ = c.loop-at.at.0 in
-    let why = c.enum_told-in_default-string-1.given in
-    let r = said why.0.0 in
-    turn_stops c.loop-at.invariant c.loop-at-test.true (moved 4 r) r (at + 4) (string_refused _ _ _ (here c) _ (string_told c) _ why.1)
+    let r = said c.in_default-string.field-0 in
+    turn_stops c.loop-at.invariant c.loop-at-test.true (moved 4 r) r (at + 4) (string_refused _ _ _ (here c) _ (string_told c) _ c.in_default-string.is)
     (sym (moved_twice at 4 r)) (omega arith)
-    c.moved-in_default-string.result (c.moved-in_default-string.ensures ∙ ap (λ (x : Refusal). moved_capped (at + 4) (said x)) (c.refusal-in_default-string.ensures ∙ ap verdict_refusal why.1))
+    c.moved-in_default-string.result (c.moved-in_default-string.ensures ∙ ap (λ (x : Refusal). moved_capped (at + 4) (said x)) (c.refusal-in_default-string.ensures ∙ ap verdict_refusal c.in_default-string.is))
 
 pub overflow_add-at-in-loop-at : goal.overflow_add-at-in-loop-at
 overflow_add-at-in-loop-at c =
@@ -83,7 +81,7 @@ loop-at-smaller-in_default-permission c = let t = whole c in omega arith
 pub loop-at-preserved-in_default-permission : goal.loop-at-preserved-in_default-permission
 loop-at-preserved-in_default-permission c =
     turn_goes c.loop-at.invariant c.loop-at-test.true _ (whole c) (omega arith) (omega arith) _ c.write_slot.ensures _
-    (bad_stays _ (ap verdict_said c.enum_told-in_default-permission-1.given.1))
+    (bad_stays _ (ap verdict_said c.in_default-permission.is))
 
 pub loop-at-smaller-in_default-verdict : goal.loop-at-smaller-in_default-verdict
 loop-at-smaller-in_default-verdict c = let t = whole c in omega arith
@@ -91,9 +89,9 @@ loop-at-smaller-in_default-verdict c = let t = whole c in omega arith
 -- all may stand so far, and so may this one
 pub loop-at-preserved-in_default-verdict : goal.loop-at-preserved-in_default-verdict
 loop-at-preserved-in_default-verdict c =
-    let still = ap verdict_said c.enum_told-in-Passed-permission-1.given.1 in
+    let still = ap verdict_said c.in-Passed-permission.is in
     turn_goes c.loop-at.invariant c.loop-at-test.true _ (whole c) (omega arith) (omega arith) _ c.write_slot.ensures _
-    (good_asks still (still ∙ sym (ap verdict_said c.enum_told-in_default-verdict-1.given.1) ∙ c.permission_of-verdict.ensures))
+    (good_asks still (still ∙ sym (ap verdict_said c.in_default-verdict.is) ∙ c.permission_of-verdict.ensures))
 
 pub loop-at-smaller : goal.loop-at-smaller
 loop-at-smaller c = let t = whole c in omega arith
@@ -102,13 +100,13 @@ loop-at-smaller c = let t = whole c in omega arith
 pub loop-at-preserved : goal.loop-at-preserved
 loop-at-preserved c =
     turn_goes c.loop-at.invariant c.loop-at-test.true _ (whole c) (omega arith) (omega arith) _ c.write_slot.ensures _
-    (good_asks (ap verdict_said c.enum_told-in-Passed-permission-1.given.1) c.permission_of-verdict.ensures)
+    (good_asks (ap verdict_said c.in-Passed-permission.is) c.permission_of-verdict.ensures)
 
 pub returns-in_default-permission-2 : goal.returns-in_default-permission-2
 returns-in_default-permission-2 c =
     turn_refuses c.loop-at.invariant c.loop-at-test.false c.refusal-in_default-permission-2.result
-    (ap verdict_said c.enum_told-in_default-permission-2-1.given.1 ∙ ap (λ (r : Refusal). refused (said r)) (sym (c.refusal-in_default-permission-2.ensures ∙ ap verdict_refusal c.enum_told-in_default-permission-2-1.given.1)))
+    (ap verdict_said c.in_default-permission-2.is ∙ ap (λ (r : Refusal). refused (said r)) (sym (c.refusal-in_default-permission-2.ensures ∙ ap verdict_refusal c.in_default-permission-2.is)))
 
 pub returns : goal.returns
 returns c =
-    turn_ends c.loop-at.invariant c.loop-at-test.false (ap verdict_said c.enum_told-in-Passed-permission-2-1.given.1)
+    turn_ends c.loop-at.invariant c.loop-at-test.false (ap verdict_said c.in-Passed-permission-2.is)

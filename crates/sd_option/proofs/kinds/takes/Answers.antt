@@ -7,16 +7,14 @@ use Rattle.sd_option.proofs.KindLaws.{multicast_type, other_type}
 use Rattle.sd_option.proofs.kinds.takes.Goals as goal
 
 pub returns-in-20 : goal.returns-in-20
-returns-in-20 c = let args = c.args in multicast_type args.code args.protocol c.in_default.keys1
+returns-in-20 c = multicast_type c.args.code c.args.protocol c.in_default.keys1
 
 pub returns-then-protocol-eq-TCP : goal.returns-then-protocol-eq-TCP
 returns-then-protocol-eq-TCP c =
-    let args = c.args in
-    let tcp = eq-eqb args.protocol 0x06 c.if-protocol-eq-TCP.true in
-    tcp ∙ sym (other_type args.code args.protocol c.in_default.rest.1 ∙ ap (λ (b : Bool). b || eqb args.protocol 0x11) tcp)
+    let tcp = eq-eqb c.args.protocol 0x06 c.if-protocol-eq-TCP.true in
+    tcp ∙ sym (other_type c.args.code c.args.protocol c.in_default.rest.1 ∙ ap (λ (b : Bool). b || eqb c.args.protocol 0x11) tcp)
 
 pub returns-else-protocol-eq-TCP : goal.returns-else-protocol-eq-TCP
 returns-else-protocol-eq-TCP c =
-    let args = c.args in
-    sym (other_type args.code args.protocol c.in_default.rest.1
-    ∙ ap (λ (b : Bool). b || eqb args.protocol 0x11) (ne_eqb args.protocol 0x06 c.if-protocol-eq-TCP.false))
+    sym (other_type c.args.code c.args.protocol c.in_default.rest.1
+    ∙ ap (λ (b : Bool). b || eqb c.args.protocol 0x11) (ne_eqb c.args.protocol 0x06 c.if-protocol-eq-TCP.false))

@@ -12,22 +12,18 @@ opposite b c e = sym (not-not b) ∙ ap not e
 
 pub returns-then-not-present : goal.returns-then-not-present
 returns-then-not-present c =
-    let args = c.args in
-    carried_none (settings_said args.settings) args.code _ _ args.present (opposite _ true c.if-not-present.true)
+    carried_none (settings_said c.args.settings) c.args.code _ _ c.args.present (opposite _ true c.if-not-present.true)
 
 pub returns-then-not-settings : goal.returns-then-not-settings
 returns-then-not-settings c =
-    let args = c.args in
-    carried_off (settings_said args.settings) args.code _ _ args.present (opposite _ false c.if-not-present.false) (opposite _ true c.if-not-settings.true)
+    carried_off (settings_said c.args.settings) c.args.code _ _ c.args.present (opposite _ false c.if-not-present.false) (opposite _ true c.if-not-settings.true)
 
 pub returns-then-takes : goal.returns-then-takes
 returns-then-takes c =
-    let args = c.args in
-    carried_taken (settings_said args.settings) args.code _ _ args.present (opposite _ false c.if-not-present.false) (opposite _ false c.if-not-settings.false)
+    carried_taken (settings_said c.args.settings) c.args.code _ _ c.args.present (opposite _ false c.if-not-present.false) (opposite _ false c.if-not-settings.false)
     (sym c.takes.ensures ∙ c.if-takes.true)
 
 pub returns : goal.returns
 returns c =
-    let args = c.args in
-    carried_not (settings_said args.settings) args.code _ _ args.present (opposite _ false c.if-not-present.false) (opposite _ false c.if-not-settings.false)
+    carried_not (settings_said c.args.settings) c.args.code _ _ c.args.present (opposite _ false c.if-not-present.false) (opposite _ false c.if-not-settings.false)
     (sym c.takes.ensures ∙ c.if-takes.false)

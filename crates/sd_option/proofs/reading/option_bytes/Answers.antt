@@ -13,11 +13,11 @@ use Rattle.sd_option.proofs.reading.option_bytes.Goals as goal
 pub returns-in_default : goal.returns-in_default
 unfolding given
 returns-in_default c =
-    sym (ap (λ (a : Answer Frame). part (given body_of a)) (not_found (judge_content _) _ _ c.read_option-answer.ensures _ c.enum_told-1.given.1))
+    sym (ap (λ (a : Answer Frame). part (given body_of a)) (not_found (judge_content _) _ _ c.read_option-answer.ensures _ c.in_default.is))
 
 pub slice_bounds-result-count-2 : goal.slice_bounds-result-count-2
-slice_bounds-result-count-2 c = let t = (let here : Found (judge_content (settings_said c.args.settings)) c.args.s.now c.answer-1.given.0.0 = λ = let b. c in found (judge_content _) _ _ b.read_option-answer.ensures _ c.answer-1.given.1 in here) in omega arith
+slice_bounds-result-count-2 c = let t = (let here : Found (judge_content (settings_said c.args.settings)) c.args.s.now c.in-Good.head = λ = let b. c in found (judge_content _) _ _ b.read_option-answer.ensures _ c.in-Good.is in here) in omega arith
 
 pub returns : goal.returns
 unfolding given
-returns c = sym (ap (λ (a : Answer Frame). part (given body_of a)) (let here : Found (judge_content (settings_said c.args.settings)) c.args.s.now c.answer-1.given.0.0 = λ = let b. c in found (judge_content _) _ _ b.read_option-answer.ensures _ c.answer-1.given.1 in here).reads)
+returns c = sym (ap (λ (a : Answer Frame). part (given body_of a)) (let here : Found (judge_content (settings_said c.args.settings)) c.args.s.now c.in-Good.head = λ = let b. c in found (judge_content _) _ _ b.read_option-answer.ensures _ c.in-Good.is in here).reads)

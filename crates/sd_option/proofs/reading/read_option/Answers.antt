@@ -12,20 +12,18 @@ use Rattle.sd_option.proofs.reading.read_option.Goals as goal
 pub returns-in_default : goal.returns-in_default
 unfolding given
 returns-in_default c =
-    let told = c.enum_told-1.given.1 in
-    ap option_said told ∙ sym (ap (given head_of) (refused_before _ _ _ (not_found (protocol_verdict _) _ _ c.read_option_unscanned-answer.ensures _ told)))
+    ap option_said c.in_default.is ∙ sym (ap (given head_of) (refused_before _ _ _ (not_found (protocol_verdict _) _ _ c.read_option_unscanned-answer.ensures _ c.in_default.is)))
 
 pub returns-in_default-string : goal.returns-in_default-string
 unfolding given
 returns-in_default-string c =
-    let told = c.enum_told-in_default-string-1.given.1 in
-    let stops = string_refused _ _ _ (let here : Found (protocol_verdict (settings_said c.args.settings)) c.args.s.now c.answer-1.given.0.0 = λ = let b. c in found (protocol_verdict _) _ _ b.read_option_unscanned-answer.ensures _ c.answer-1.given.1 in here) _ c.scan-string.ensures _ told in
-    let same = ap said (c.refusal.ensures ∙ ap verdict_refusal told) in
-    ap refused (c.moved.ensures ∙ ap (moved_capped 4) same ∙ moved_in_option _ _ 4 (said c.enum_told-in_default-string-1.given.0.0) stops (omega (arith, c)))
+    let stops = string_refused _ _ _ (let here : Found (protocol_verdict (settings_said c.args.settings)) c.args.s.now c.in-Good.head = λ = let b. c in found (protocol_verdict _) _ _ b.read_option_unscanned-answer.ensures _ c.in-Good.is in here) _ c.scan-string.ensures _ c.in_default-string.is in
+    let same = ap said (c.refusal.ensures ∙ ap verdict_refusal c.in_default-string.is) in
+    ap refused (c.moved.ensures ∙ ap (moved_capped 4) same ∙ moved_in_option _ _ 4 (said c.in_default-string.field-0) stops (omega (arith, c)))
     ∙ sym (ap (given head_of) stops)
 
 pub returns : goal.returns
 unfolding given
 returns c =
-    let t = string_passed _ _ _ (let here : Found (protocol_verdict (settings_said c.args.settings)) c.args.s.now c.answer-1.given.0.0 = λ = let b. c in found (protocol_verdict _) _ _ b.read_option_unscanned-answer.ensures _ c.answer-1.given.1 in here) _ c.scan-string.ensures c.enum_told-in-Passed-1.given.1 in
+    let t = string_passed _ _ _ (let here : Found (protocol_verdict (settings_said c.args.settings)) c.args.s.now c.in-Good.head = λ = let b. c in found (protocol_verdict _) _ _ b.read_option_unscanned-answer.ensures _ c.in-Good.is in here) _ c.scan-string.ensures c.in-Passed.is in
     sym (ap (given head_of) t.reads ∙ ap accepted t.head)

@@ -17,8 +17,7 @@ returns-in_default c =
 
 pub returns : goal.returns
 returns c =
-    let args = c.args in
-    let body : List ℕ = behind_type args.s.now args.head.size in
+    let body : List ℕ = behind_type c.args.s.now c.args.head.size in
     c.check_string.ensures
     ∙ ap string_alone c.string_of.ensures
-    ∙ sym (ap (λ (kind : Kind). string_verdict kind body) (sym c.kind_of-kind.ensures ∙ ap kind_said c.enum_told-1.given.1))
+    ∙ sym (ap (λ (kind : Kind). string_verdict kind body) (sym c.kind_of-kind.ensures ∙ ap kind_said c.in-Configuration.is))

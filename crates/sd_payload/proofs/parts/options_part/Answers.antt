@@ -12,21 +12,19 @@ use Rattle.sd_payload.proofs.parts.options_part.Goals.{In-Good}
 
 -- the sizes that were read
 came : (c : In-Good)
-    → settled c.args.answer c.args.payload.now ≡ accepted c.sizes-1.given.0.0
-came c = sym c.sizes_read-sizes.ensures ∙ ap count_said c.sizes-1.given.1
+    → settled c.args.answer c.args.payload.now ≡ accepted c.in-Good.entries_len
+came c = sym c.sizes_read-sizes.ensures ∙ ap count_said c.in-Good.is
 
 pub returns-in_default : goal.returns-in_default
 returns-in_default c =
-    let args = c.args in
-    handed_none args.answer args.payload.now _ (sym c.sizes_read-sizes.ensures ∙ ap count_said c.enum_told-1.given.1) _
+    handed_none c.args.answer c.args.payload.now _ (sym c.sizes_read-sizes.ensures ∙ ap count_said c.in_default.is) _
 
 pub overflow_add-from : goal.overflow_add-from
-overflow_add-from c = let t = (let stand : Parts c.args.payload.now c.sizes-1.given.0.0 = settled_parts c.args.answer _ _ (came c) in stand) in omega arith
+overflow_add-from c = let t = (let stand : Parts c.args.payload.now c.in-Good.entries_len = settled_parts c.args.answer _ _ (came c) in stand) in omega arith
 
 pub slice_bounds-result-count-2 : goal.slice_bounds-result-count-2
-slice_bounds-result-count-2 c = let t = (let stand : Parts c.args.payload.now c.sizes-1.given.0.0 = settled_parts c.args.answer _ _ (came c) in stand) in omega arith
+slice_bounds-result-count-2 c = let t = (let stand : Parts c.args.payload.now c.in-Good.entries_len = settled_parts c.args.answer _ _ (came c) in stand) in omega arith
 
 pub returns : goal.returns
 returns c =
-    let args = c.args in
-    (let stand : Parts c.args.payload.now c.sizes-1.given.0.0 = settled_parts c.args.answer _ _ (came c) in stand).options_are ∙ handed_part args.answer args.payload.now _ (came c) _
+    (let stand : Parts c.args.payload.now c.in-Good.entries_len = settled_parts c.args.answer _ _ (came c) in stand).options_are ∙ handed_part c.args.answer c.args.payload.now _ (came c) _

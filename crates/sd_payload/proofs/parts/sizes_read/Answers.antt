@@ -7,7 +7,7 @@ use Rattle.sd_payload.proofs.parts.sizes_read.Goals as goal
 
 pub returns-in-Good : goal.returns-in-Good
 returns-in-Good c =
-    c.judge_sizes.ensures ∙ sym (ap (λ (a : PayloadAnswer). settled a c.args.payload.now) c.enum_told-1.given.1)
+    c.judge_sizes.ensures ∙ sym (ap (λ (a : PayloadAnswer). settled a c.args.payload.now) c.in-Good.is)
 
 pub returns-in-Refused : goal.returns-in-Refused
-returns-in-Refused c = rw c.answer-1.given.1 refl
+returns-in-Refused c = rw c.in-Refused.is refl

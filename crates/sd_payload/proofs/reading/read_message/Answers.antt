@@ -18,17 +18,15 @@ returns-then-table-lt-SLOTS c = read_few_slots _ _ c.if-table-lt-SLOTS.true
 
 pub returns-in_default : goal.returns-in_default
 returns-in_default c =
-    let told = c.enum_told-in_default-1.given.1 in
     read_refused _ _ _ c.if-table-lt-SLOTS.false c.refusal.result
-    (header_refuses _ _ _ (sym c.judge_header-verdict.ensures ∙ ap verdict_said told) ∙ ap (λ (r : Refusal). refused (said r)) (sym (c.refusal.ensures ∙ ap verdict_refusal told)))
+    (header_refuses _ _ _ (sym c.judge_header-verdict.ensures ∙ ap verdict_said c.in_default.is) ∙ ap (λ (r : Refusal). refused (said r)) (sym (c.refusal.ensures ∙ ap verdict_refusal c.in_default.is)))
     c.clear_slots.ensures
 
 pub slice_bounds-read_payload-count : goal.slice_bounds-read_payload-count
-slice_bounds-read_payload-count c = omega (arith, header_long _ (let passed : header c.args.message.now ≡ pass = sym c.judge_header-verdict.ensures ∙ ap verdict_said c.enum_told-1.given.1 in passed))
+slice_bounds-read_payload-count c = omega (arith, header_long _ (let passed : header c.args.message.now ≡ pass = sym c.judge_header-verdict.ensures ∙ ap verdict_said c.in-Passed.is in passed))
 
 pub returns : goal.returns
 returns c =
-    let a = c.args in
-    subst (λ (x : Answer Reading). PayloadRead x a.table.now c.read_payload.new.1.1.0 c.read_payload.result)
-    (ap (read_payload (settings_said a.settings)) (take_rest a.message.now 16) ∙ sym (header_passes (settings_said a.settings) a.message.now (let passed : header c.args.message.now ≡ pass = sym c.judge_header-verdict.ensures ∙ ap verdict_said c.enum_told-1.given.1 in passed)))
+    subst (λ (x : Answer Reading). PayloadRead x c.args.table.now c.read_payload.new.1.1.0 c.read_payload.result)
+    (ap (read_payload (settings_said c.args.settings)) (take_rest c.args.message.now 16) ∙ sym (header_passes (settings_said c.args.settings) c.args.message.now (let passed : header c.args.message.now ≡ pass = sym c.judge_header-verdict.ensures ∙ ap verdict_said c.in-Passed.is in passed)))
     c.read_payload.ensures

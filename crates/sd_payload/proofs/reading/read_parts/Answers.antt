@@ -32,9 +32,9 @@ abbrev index_of : In-Good → After-read_options-index
 index_of x = x
 
 judged : (j : After-judge_entries-verdict)
-    → verdict_said j.judge_entries-verdict.result ≡ verdict (read_entries j.index-1.given.0.0 (entries_part (S (start (index_of j)))))
+    → verdict_said j.judge_entries-verdict.result ≡ verdict (read_entries j.in-Good.options (entries_part (S (start (index_of j)))))
 judged j =
-    j.judge_entries-verdict.ensures ∙ ap (λ (t : List ℕ). verdict (read_entries j.index-1.given.0.0 t)) (stand (start (index_of j))).entries_are
+    j.judge_entries-verdict.ensures ∙ ap (λ (t : List ℕ). verdict (read_entries j.in-Good.options t)) (stand (start (index_of j))).entries_are
 
 pub overflow_add-from : goal.overflow_add-from
 overflow_add-from c = let t = (let stand : Parts (S c) c.args.entries-len = parts (S c) c.args.entries-len c.requires.1 in stand) in omega arith
@@ -44,9 +44,8 @@ slice_bounds-read_options-count c = let t = (let stand : Parts (S c) c.args.entr
 
 pub returns-in_default : goal.returns-in_default
 returns-in_default c =
-    let told = c.enum_told-1.given.1 in
-    options_refused (G c) (S c) c.args.table.now c.args.entries-len c.requires.0 (stand c) _ c.read_options-index.result (let here : Indexed (indexed (G c) (options_part (S c))) c.args.table.now w.read_options-index.last.1.1.0 w.read_options-index.result = subst (λ (t : List ℕ). Indexed (indexed (G c) t) c.args.table.now w.read_options-index.last.1.1.0 w.read_options-index.result) ((let stand : Parts (S c) c.args.entries-len = parts (S c) c.args.entries-len c.requires.1 in stand) c).options_are w.read_options-index.ensures in here) c.refusal.result
-    (told ∙ ap count.Refused (sym (c.refusal.ensures ∙ ap count_refusal told)))
+    options_refused (G c) (S c) c.args.table.now c.args.entries-len c.requires.0 (stand c) _ c.read_options-index.result (let here : Indexed (indexed (G c) (options_part (S c))) c.args.table.now w.read_options-index.last.1.1.0 w.read_options-index.result = subst (λ (t : List ℕ). Indexed (indexed (G c) t) c.args.table.now w.read_options-index.last.1.1.0 w.read_options-index.result) (let stand : Parts (S c) c.args.entries-len = parts (S c) c.args.entries-len c.requires.1 in stand).options_are w.read_options-index.ensures in here) c.refusal.result
+    (c.in_default.is ∙ ap count.Refused (sym (c.refusal.ensures ∙ ap count_refusal c.in_default.is)))
 
 pub overflow_add-to : goal.overflow_add-to
 overflow_add-to c = let t = stand (start (index_of c)) in omega arith
@@ -54,9 +53,8 @@ overflow_add-to c = let t = stand (start (index_of c)) in omega arith
 pub returns-in_default-verdict : goal.returns-in_default-verdict
 returns-in_default-verdict c =
     let w = index_of c in
-    let told = c.enum_told-in_default-verdict-1.given.1 in
-    entries_refused (G c) (S c) c.args.table.now c.args.entries-len c.requires.0 (stand c) _ w.read_options-index.result (let here : Indexed (indexed (G c) (options_part (S c))) c.args.table.now w.read_options-index.last.1.1.0 w.read_options-index.result = subst (λ (t : List ℕ). Indexed (indexed (G c) t) c.args.table.now w.read_options-index.last.1.1.0 w.read_options-index.result) ((let stand : Parts (S c) c.args.entries-len = parts (S c) c.args.entries-len c.requires.1 in stand) c).options_are w.read_options-index.ensures in here) _ c.index-1.given.1
-    c.judge_entries-verdict.result (judged c) c.refusal-in_default-verdict.result (told ∙ ap verdict_of.Refused (sym (c.refusal-in_default-verdict.ensures ∙ ap verdict_refusal told))) _ c.clear_slots.ensures
+    entries_refused (G c) (S c) c.args.table.now c.args.entries-len c.requires.0 (stand c) _ w.read_options-index.result (let here : Indexed (indexed (G c) (options_part (S c))) c.args.table.now w.read_options-index.last.1.1.0 w.read_options-index.result = subst (λ (t : List ℕ). Indexed (indexed (G c) t) c.args.table.now w.read_options-index.last.1.1.0 w.read_options-index.result) (let stand : Parts (S c) c.args.entries-len = parts (S c) c.args.entries-len c.requires.1 in stand).options_are w.read_options-index.ensures in here) _ c.in-Good.is
+    c.judge_entries-verdict.result (judged c) c.refusal-in_default-verdict.result (c.in_default-verdict.is ∙ ap verdict_of.Refused (sym (c.refusal-in_default-verdict.ensures ∙ ap verdict_refusal c.in_default-verdict.is))) _ c.clear_slots.ensures
 
 pub bounds-payload-0 : goal.bounds-payload-0
 bounds-payload-0 c = let t = stand (start (index_of c)) in omega arith
@@ -64,5 +62,5 @@ bounds-payload-0 c = let t = stand (start (index_of c)) in omega arith
 pub returns : goal.returns
 returns c =
     let w = index_of c in
-    entries_passed (G c) (S c) c.args.table.now c.args.entries-len c.requires.0 (stand c) _ w.read_options-index.result (let here : Indexed (indexed (G c) (options_part (S c))) c.args.table.now w.read_options-index.last.1.1.0 w.read_options-index.result = subst (λ (t : List ℕ). Indexed (indexed (G c) t) c.args.table.now w.read_options-index.last.1.1.0 w.read_options-index.result) ((let stand : Parts (S c) c.args.entries-len = parts (S c) c.args.entries-len c.requires.1 in stand) c).options_are w.read_options-index.ensures in here) _ c.index-1.given.1
-    c.judge_entries-verdict.result (judged c) c.enum_told-in-Passed-1.given.1 _ c.flags_of.ensures
+    entries_passed (G c) (S c) c.args.table.now c.args.entries-len c.requires.0 (stand c) _ w.read_options-index.result (let here : Indexed (indexed (G c) (options_part (S c))) c.args.table.now w.read_options-index.last.1.1.0 w.read_options-index.result = subst (λ (t : List ℕ). Indexed (indexed (G c) t) c.args.table.now w.read_options-index.last.1.1.0 w.read_options-index.result) (let stand : Parts (S c) c.args.entries-len = parts (S c) c.args.entries-len c.requires.1 in stand).options_are w.read_options-index.ensures in here) _ c.in-Good.is
+    c.judge_entries-verdict.result (judged c) c.in-Passed.is _ c.flags_of.ensures

@@ -12,11 +12,10 @@ returns-then-table-lt-SLOTS c = read_few_slots _ _ c.if-table-lt-SLOTS.true
 
 pub returns-in_default : goal.returns-in_default
 returns-in_default c =
-    let told = c.enum_told-1.given.1 in
     read_refused _ _ _ c.if-table-lt-SLOTS.false c.refusal.result
-    (sizes_refuse _ _ _ (sym c.judge_sizes-sizes.ensures ∙ ap count_said told) ∙ ap (λ (r : Refusal). refused (said r)) (sym (c.refusal.ensures ∙ ap count_refusal told)))
+    (sizes_refuse _ _ _ (sym c.judge_sizes-sizes.ensures ∙ ap count_said c.in_default.is) ∙ ap (λ (r : Refusal). refused (said r)) (sym (c.refusal.ensures ∙ ap count_refusal c.in_default.is)))
     c.clear_slots.ensures
 
 pub read_parts-requires : goal.read_parts-requires
 read_parts-requires c =
-    (search rules, sym c.judge_sizes-sizes.ensures ∙ ap count_said c.sizes-1.given.1)
+    (search rules, sym c.judge_sizes-sizes.ensures ∙ ap count_said c.in-Good.is)

@@ -48,13 +48,12 @@ returns-then-options-gt-MAX_OPTIONS_LEN c =
 pub returns-in_default : goal.returns-in_default
 unfolding ◌>>◌ entries_length options_length
 returns-in_default c =
-    let told = c.enum_told-in_default-1.given.1 in
-    ap (λ (r : Refusal). refused (said r)) (c.refusal.ensures ∙ ap verdict_refusal told)
+    ap (λ (r : Refusal). refused (said r)) (c.refusal.ensures ∙ ap verdict_refusal c.in_default.is)
     ∙ (let by_options : {a : Answer ℕ} → (sizes (length (c.args.payload.now c)) (c.be32-entries.result c) c.be32-options.result >> accepted (c.be32-entries.result c)) ≡ a → a ≡ sized (c.args.payload.now c) = λ e. sym (sized_by (c.args.payload.now c) (c.be32-entries.result c) c.be32-options.result ((let entries_is : c.be32-entries.result ≡ entries_length c.args.payload.now = c.be32-entries.ensures ∙ word_at c.args.payload.now 4 in entries_is) c) (let options_is : c.be32-options.result ≡ options_length (c.args.payload.now c) = c.be32-options.ensures ∙ word_at (c.args.payload.now c) (8 + c.be32-entries.result c) ∙ ap (λ (n : ℕ). at32 (c.args.payload.now c) (8 + n)) ((let entries_is : c.be32-entries.result ≡ entries_length c.args.payload.now = c.be32-entries.ensures ∙ word_at c.args.payload.now 4 in entries_is) c) in options_is) ∙ e) in by_options) (ap (λ (v : Verdict). v >> accepted (el c)) ((let judged : sizes (length (c.args.payload.now (c c))) (c.be32-entries.result (c c)) c.be32-options.result ≡ verdict_said c.judge_whole-verdict.result = λ =
-    let o. c in let r = c o in sizes_whole _ _ _ (c r).if1.left (c o).before.before.if2.false (c o).before.if3.false (c o).if4.false c.if-options-gt-MAX_OPTIONS_LEN.false ∙ sym c.judge_whole-verdict.ensures in judged) ∙ ap verdict_said told))
+    let o. c in let r = c o in sizes_whole _ _ _ (c r).if1.left (c o).before.before.if2.false (c o).before.if3.false (c o).if4.false c.if-options-gt-MAX_OPTIONS_LEN.false ∙ sym c.judge_whole-verdict.ensures in judged) ∙ ap verdict_said c.in_default.is))
 
 pub returns : goal.returns
 unfolding ◌>>◌ entries_length options_length
 returns c =
     (let by_options : {a : Answer ℕ} → (sizes (length (c.args.payload.now c)) (c.be32-entries.result c) c.be32-options.result >> accepted (c.be32-entries.result c)) ≡ a → a ≡ sized (c.args.payload.now c) = λ e. sym (sized_by (c.args.payload.now c) (c.be32-entries.result c) c.be32-options.result ((let entries_is : c.be32-entries.result ≡ entries_length c.args.payload.now = c.be32-entries.ensures ∙ word_at c.args.payload.now 4 in entries_is) c) (let options_is : c.be32-options.result ≡ options_length (c.args.payload.now c) = c.be32-options.ensures ∙ word_at (c.args.payload.now c) (8 + c.be32-entries.result c) ∙ ap (λ (n : ℕ). at32 (c.args.payload.now c) (8 + n)) ((let entries_is : c.be32-entries.result ≡ entries_length c.args.payload.now = c.be32-entries.ensures ∙ word_at c.args.payload.now 4 in entries_is) c) in options_is) ∙ e) in by_options) (ap (λ (v : Verdict). v >> accepted (el c)) ((let judged : sizes (length (c.args.payload.now (c c))) (c.be32-entries.result (c c)) c.be32-options.result ≡ verdict_said c.judge_whole-verdict.result = λ =
-    let o. c in let r = c o in sizes_whole _ _ _ (c r).if1.left (c o).before.before.if2.false (c o).before.if3.false (c o).if4.false c.if-options-gt-MAX_OPTIONS_LEN.false ∙ sym c.judge_whole-verdict.ensures in judged) ∙ ap verdict_said c.enum_told-1.given.1))
+    let o. c in let r = c o in sizes_whole _ _ _ (c r).if1.left (c o).before.before.if2.false (c o).before.if3.false (c o).if4.false c.if-options-gt-MAX_OPTIONS_LEN.false ∙ sym c.judge_whole-verdict.ensures in judged) ∙ ap verdict_said c.in-Passed.is))

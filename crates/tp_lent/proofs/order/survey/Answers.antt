@@ -87,7 +87,7 @@ loop-i-init c =
     record { upto = omega arith; few = omega arith; fewer = omega arith; rises = λ p r e _. refl; past = λ p r e h. absurd (omega (arith, h)); befores = omega arith; behinds = omega arith }
 
 pub range_at-r-requires : goal.range_at-r-requires
-range_at-r-requires c =(omega (arith, c.loop-i-test.true, c.requires.0), c.requires.1)
+range_at-r-requires c = (omega (arith, c.loop-i-test.true, c.requires.0), c.requires.1)
 
 pub returns-then-r-low : goal.returns-then-r-low
 returns-then-r-low c p reach counts =
@@ -154,10 +154,9 @@ returns-then-top-low c p reach counts =
 
 pub returns : goal.returns
 returns c p reach counts =
-    let a = c.args in
-    let all = ranges_in a.words.now most in
+    let all = ranges_in c.args.words.now most in
     record {
-      fine = sym (c.loop-i.invariant.rises p reach counts c.if-top-low.false ∙ rising_done (bad_range p) c.loop-i.low all c.loop-i.i a.count c.loop-i-test.false);
-      before = λ _. sym (counted_done (ends_before a.start) c.loop-i.before all c.loop-i.i a.count c.loop-i-test.false) ∙ c.loop-i.invariant.befores;
-      behind = λ _. sym (counted_done (begins_by a.end) c.loop-i.behind all c.loop-i.i a.count c.loop-i-test.false) ∙ c.loop-i.invariant.behinds;
+      fine = sym (c.loop-i.invariant.rises p reach counts c.if-top-low.false ∙ rising_done (bad_range p) c.loop-i.low all c.loop-i.i c.args.count c.loop-i-test.false);
+      before = λ _. sym (counted_done (ends_before c.args.start) c.loop-i.before all c.loop-i.i c.args.count c.loop-i-test.false) ∙ c.loop-i.invariant.befores;
+      behind = λ _. sym (counted_done (begins_by c.args.end) c.loop-i.behind all c.loop-i.i c.args.count c.loop-i-test.false) ∙ c.loop-i.invariant.behinds;
     }

@@ -15,6 +15,5 @@ returns-in_default c e = absurd (false≢true e)
 
 pub returns : goal.returns
 returns c e =
-    let a = c.args in
-    sym (c.judge_header.ensures ∙ (λ i. header_judged (get_or a.words.now 0 0) (c.end_of-end.ensures i) (c.least_end-least.ensures i) a.header a.room))
-    ∙ ap verdict_said c.enum_told-1.given.1
+    sym (c.judge_header.ensures ∙ (λ i. header_judged (get_or c.args.words.now 0 0) (c.end_of-end.ensures i) (c.least_end-least.ensures i) c.args.header c.args.room))
+    ∙ ap verdict_said c.in-Passed.is

@@ -34,16 +34,16 @@ pub bounds-words-1 : goal.bounds-words-1
 bounds-words-1 c = omega (arith, enough (ws c) (ready c))
 
 pub passes-requires : goal.passes-requires
-passes-requires c =(few (ws c) (ready c), enough (ws c) (ready c))
+passes-requires c = (few (ws c) (ready c), enough (ws c) (ready c))
 
 pub bounds-words-4 : goal.bounds-words-4
 bounds-words-4 c = let e = first c in omega (arith, enough (ws e) (ready e))
 
 pub overflow_cast-new : goal.overflow_cast-new
-overflow_cast-new c = omega (arith, (let short : (c.header-1.given.0.0 c).offset + (c.header-1.given.0.0 c).size ≤ 65520 = omega (arith, within _ _ _ (c.header-1.given.0.0 c) _ (let passes : header_judged (get_or (c.args.words.now (c c)) 0 0) (end_of (get_or (c.args.words.now (c c)) 2 0) (get_or (c.args.words.now (c c)) 3 0)) (cond (c.header-1.given.0.0 c).more 0 (last_end (c.args.words.now (c c)) (get_or (c.args.words.now (c c)) 1 0))) (c.header-1.given.0.0 c) (c (c c)).args.room ≡ pass = c.passes.ensures c.if-passes.true in passes), low (c.args.words.now (c c)) ((let ready : unready c.args.words.now ≡ false = sym c.unready.ensures ∙ c.if-unready.false in ready) (c c))) in short))
+overflow_cast-new c = omega (arith, (let short : (c.in-Good.header c).offset + (c.in-Good.header c).size ≤ 65520 = omega (arith, within _ _ _ (c.in-Good.header c) _ (let passes : header_judged (get_or (c.args.words.now (c c)) 0 0) (end_of (get_or (c.args.words.now (c c)) 2 0) (get_or (c.args.words.now (c c)) 3 0)) (cond (c.in-Good.header c).more 0 (last_end (c.args.words.now (c c)) (get_or (c.args.words.now (c c)) 1 0))) (c.in-Good.header c) (c (c c)).args.room ≡ pass = c.passes.ensures c.if-passes.true in passes), low (c.args.words.now (c c)) ((let ready : unready c.args.words.now ≡ false = sym c.unready.ensures ∙ c.if-unready.false in ready) (c c))) in short))
 
 pub overflow_add-new : goal.overflow_add-new
-overflow_add-new c = omega (arith, (let short : (c.header-1.given.0.0 c).offset + (c.header-1.given.0.0 c).size ≤ 65520 = omega (arith, within _ _ _ (c.header-1.given.0.0 c) _ (let passes : header_judged (get_or (c.args.words.now (c c)) 0 0) (end_of (get_or (c.args.words.now (c c)) 2 0) (get_or (c.args.words.now (c c)) 3 0)) (cond (c.header-1.given.0.0 c).more 0 (last_end (c.args.words.now (c c)) (get_or (c.args.words.now (c c)) 1 0))) (c.header-1.given.0.0 c) (c (c c)).args.room ≡ pass = c.passes.ensures c.if-passes.true in passes), low (c.args.words.now (c c)) ((let ready : unready c.args.words.now ≡ false = sym c.unready.ensures ∙ c.if-unready.false in ready) (c c))) in short))
+overflow_add-new c = omega (arith, (let short : (c.in-Good.header c).offset + (c.in-Good.header c).size ≤ 65520 = omega (arith, within _ _ _ (c.in-Good.header c) _ (let passes : header_judged (get_or (c.args.words.now (c c)) 0 0) (end_of (get_or (c.args.words.now (c c)) 2 0) (get_or (c.args.words.now (c c)) 3 0)) (cond (c.in-Good.header c).more 0 (last_end (c.args.words.now (c c)) (get_or (c.args.words.now (c c)) 1 0))) (c.in-Good.header c) (c (c c)).args.room ≡ pass = c.passes.ensures c.if-passes.true in passes), low (c.args.words.now (c c)) ((let ready : unready c.args.words.now ≡ false = sym c.unready.ensures ∙ c.if-unready.false in ready) (c c))) in short))
 
 pub bounds-words-4-then-words-lt-LAST_NUMBER : goal.bounds-words-4-then-words-lt-LAST_NUMBER
 bounds-words-4-then-words-lt-LAST_NUMBER c = let e = first c in omega (arith, enough (ws e) (ready e))
@@ -58,7 +58,7 @@ survey-found-requires c =
 
 pub returns-then-room_left : goal.returns-then-room_left
 returns-then-room_left c e =
-    let s = (let surveyed : Surveys (state_of (c.args.words.now c)) (held (c.args.words.now c)) (c.header-1.given.0.0 (c c)).offset ((c.header-1.given.0.0 (c c)).offset + (c.header-1.given.0.0 (c c)).size) c.survey-found.result = c.survey-found.ensures (state_of (c.args.words.now c)) (subst (Reach (state_of (c.args.words.now c))) (sym c.top_of.ensures) (reach (c.args.words.now c) ((let ready : unready c.args.words.now ≡ false = sym c.unready.ensures ∙ c.if-unready.false in ready) c))) (count_is (c.args.words.now c) ((let ready : unready c.args.words.now ≡ false = sym c.unready.ensures ∙ c.if-unready.false in ready) c)) in surveyed) in
+    let s = (let surveyed : Surveys (state_of (c.args.words.now c)) (held (c.args.words.now c)) (c.in-Good.header (c c)).offset ((c.in-Good.header (c c)).offset + (c.in-Good.header (c c)).size) c.survey-found.result = c.survey-found.ensures (state_of (c.args.words.now c)) (subst (Reach (state_of (c.args.words.now c))) (sym c.top_of.ensures) (reach (c.args.words.now c) ((let ready : unready c.args.words.now ≡ false = sym c.unready.ensures ∙ c.if-unready.false in ready) c))) (count_is (c.args.words.now c) ((let ready : unready c.args.words.now ≡ false = sym c.unready.ensures ∙ c.if-unready.false in ready) c)) in surveyed) in
     let left = c.room_left.ensures c.if-room_left.true in
     let i = is_read (told c) in
     let order : rising (bad_range (state_of (ws c))) 0 (held (ws c)) ≡ true = sym s.fine ∙ left.fine in

@@ -11,10 +11,9 @@ returns-then-before-behind c = rw (eq-eqb _ _ c.if-before-behind.taken)
 
 pub returns : goal.returns
 returns c =
-    let a = c.args in
     rw (ne_eqb _ _ c.if-before-behind.left)
     (λ i. record {
-      start = (c.least.ensures ∙ ap (λ (r : TpRange). min r.start a.new.start) c.range_at-first.ensures) i;
-      end = (c.greatest.ensures ∙ ap (λ (r : TpRange). max r.end a.new.end) c.range_at-last.ensures) i;
-      number = a.new.number;
+      start = (c.least.ensures ∙ ap (λ (r : TpRange). min r.start c.args.new.start) c.range_at-first.ensures) i;
+      end = (c.greatest.ensures ∙ ap (λ (r : TpRange). max r.end c.args.new.end) c.range_at-last.ensures) i;
+      number = c.args.new.number;
     })

@@ -16,31 +16,30 @@ loop-i-init c = (omega arith, refl, search rules)
 
 pub loop-i-preserved : goal.loop-i-preserved
 loop-i-preserved c =
-    let a = c.args in (
+(
       omega arith,
-      part_more c.loop-i.part a.words.now a.from c.loop-i.i (omega arith) (omega arith) c.loop-i.invariant.1,
+      part_more c.loop-i.part c.args.words.now c.args.from c.loop-i.i (omega arith) (omega arith) c.loop-i.invariant.1,
       simp length-set c.loop-i.invariant.2,
     )
 
 pub loop-j-init : goal.loop-j-init
-loop-j-init c = let a = c.args in (omega arith, paste-zero a.words.now a.to c.loop-i.part, refl)
+loop-j-init c = (omega arith, paste-zero c.args.words.now c.args.to c.loop-i.part, refl)
 
 pub loop-j-preserved : goal.loop-j-preserved
 loop-j-preserved c =
     let part = c.loop-i.part in
-    let a = c.args in (
+(
       omega arith,
-      ap (λ (l : List ℕ). set l (a.to + c.loop-j.j) (get_or part c.loop-j.j 0)) c.loop-j.invariant.1
-          ∙ paste-suc a.words.now a.to part c.loop-j.j 0 (omega arith) (omega arith)
-          ∙ ap (paste a.words.now a.to part) (sym (add-one c.loop-j.j)),
+      ap (λ (l : List ℕ). set l (c.args.to + c.loop-j.j) (get_or part c.loop-j.j 0)) c.loop-j.invariant.1
+          ∙ paste-suc c.args.words.now c.args.to part c.loop-j.j 0 (omega arith) (omega arith)
+          ∙ ap (paste c.args.words.now c.args.to part) (sym (add-one c.loop-j.j)),
       simp length-set c.loop-j.invariant.2,
     )
 
 pub returns : goal.returns
 returns c =
-    let a = c.args in
     let part = c.loop-i.part in
-    let whole : c.loop-i.i ≡ a.many = le_antisymm c.loop-i.invariant.0 c.loop-i-test.false in
+    let whole : c.loop-i.i ≡ c.args.many = le_antisymm c.loop-i.invariant.0 c.loop-i-test.false in
     c.loop-j.invariant.1
-    ∙ ap (paste a.words.now a.to part) (le_antisymm c.loop-j.invariant.0 c.loop-j-test.false)
-    ∙ paste_part a.words.now part a.to a.from a.many (omega arith) (ap (λ (n : ℕ). take n part) (sym whole) ∙ c.loop-i.invariant.1 ∙ ap (λ (n : ℕ). take n (drop a.from a.words.now)) whole)
+    ∙ ap (paste c.args.words.now c.args.to part) (le_antisymm c.loop-j.invariant.0 c.loop-j-test.false)
+    ∙ paste_part c.args.words.now part c.args.to c.args.from c.args.many (omega arith) (ap (λ (n : ℕ). take n part) (sym whole) ∙ c.loop-i.invariant.1 ∙ ap (λ (n : ℕ). take n (drop c.args.from c.args.words.now)) whole)

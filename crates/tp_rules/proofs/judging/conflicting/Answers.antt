@@ -5,10 +5,10 @@ use borrow.Author.Rules.{rules}
 use Rattle.tp_rules.proofs.judging.conflicting.Goals as goal
 
 pub returns-then-e-x : goal.returns-then-e-x
-returns-then-e-x c = sym (conflict_past _ _ _ _ c.end-1.given.1 c.if-e-x.true)
+returns-then-e-x c = sym (conflict_past _ _ _ _ c.in-Known.is c.if-e-x.true)
 
 pub returns-then-more : goal.returns-then-more
-returns-then-more c = sym (conflict_more _ _ _ _ c.end-1.given.1 c.if-e-x.false c.if-more.true)
+returns-then-more c = sym (conflict_more _ _ _ _ c.in-Known.is c.if-e-x.false c.if-more.true)
 
 pub returns-else-more : goal.returns-else-more
-returns-else-more c = sym (conflict_last _ _ _ _ c.end-1.given.1 c.if-e-x.false c.if-more.false)
+returns-else-more c = sym (conflict_last _ _ _ _ c.in-Known.is c.if-e-x.false c.if-more.false)

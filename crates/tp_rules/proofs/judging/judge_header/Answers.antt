@@ -20,10 +20,10 @@ pub returns-then-not_aligned : goal.returns-then-not_aligned
 returns-then-not_aligned c = header_uneven _ _ _ _ _ (let within : ltb c.args.limit (c.args.header.offset + c.args.header.size) ≡ false = sym c.too_big.ensures ∙ c.if-too_big.false in within) (sym c.not_aligned.ensures ∙ c.if-not_aligned.true)
 
 pub overflow_cast-new : goal.overflow_cast-new
-overflow_cast-new c = omega (arith, (let small : c.args.header.offset + c.args.header.size ≤ c.args.limit = ltb-false _ _ ((let within : ltb c.args.limit (c.args.header.offset + c.args.header.size) ≡ false = sym c.too_big.ensures ∙ c.if-too_big.false in within) c) in small))
+overflow_cast-new c = omega (arith, (let small : c.args.header.offset + c.args.header.size ≤ c.args.limit = ltb-false _ _ (let within : ltb c.args.limit (c.args.header.offset + c.args.header.size) ≡ false = sym c.too_big.ensures ∙ c.if-too_big.false in within) in small))
 
 pub overflow_add-new : goal.overflow_add-new
-overflow_add-new c = omega (arith, (let small : c.args.header.offset + c.args.header.size ≤ c.args.limit = ltb-false _ _ ((let within : ltb c.args.limit (c.args.header.offset + c.args.header.size) ≡ false = sym c.too_big.ensures ∙ c.if-too_big.false in within) c) in small))
+overflow_add-new c = omega (arith, (let small : c.args.header.offset + c.args.header.size ≤ c.args.limit = ltb-false _ _ (let within : ltb c.args.limit (c.args.header.offset + c.args.header.size) ≡ false = sym c.too_big.ensures ∙ c.if-too_big.false in within) in small))
 
 pub returns-then-conflicting : goal.returns-then-conflicting
 returns-then-conflicting c =

@@ -13,15 +13,14 @@ loop-i-init c = (omega arith, paste-zero c.args.buf.now c.args.at c.args.src.now
 
 pub loop-i-preserved : goal.loop-i-preserved
 loop-i-preserved c =
-    let a = c.args in (
+(
       omega arith,
-      paste_more a.buf.now _ a.at a.src.now c.loop-i.i (omega arith) (omega arith) c.loop-i.invariant.1,
+      paste_more c.args.buf.now _ c.args.at c.args.src.now c.loop-i.i (omega arith) (omega arith) c.loop-i.invariant.1,
       simp length-set c.loop-i.invariant.2,
     )
 
 pub returns : goal.returns
 returns c =
-    let a = c.args in
     c.loop-i.invariant.1
-    ∙ ap (paste a.buf.now a.at a.src.now) (le_antisymm c.loop-i.invariant.0 c.loop-i-test.false)
-    ∙ paste_all a.buf.now a.at a.src.now
+    ∙ ap (paste c.args.buf.now c.args.at c.args.src.now) (le_antisymm c.loop-i.invariant.0 c.loop-i-test.false)
+    ∙ paste_all c.args.buf.now c.args.at c.args.src.now

@@ -14,9 +14,9 @@ loop-i-init c = (omega arith, refl, search rules)
 
 pub loop-i-preserved : goal.loop-i-preserved
 loop-i-preserved c =
-    let a = c.args in (
+(
       omega arith,
-      front_more c.loop-i.few a.src.now c.loop-i.i (omega arith) (omega arith) c.loop-i.invariant.1,
+      front_more c.loop-i.few c.args.src.now c.loop-i.i (omega arith) (omega arith) c.loop-i.invariant.1,
       simp length-set c.loop-i.invariant.2,
     )
 
@@ -26,17 +26,16 @@ loop-j-init c = (omega arith, paste-zero c.args.buf.now c.args.at c.loop-i.few, 
 pub loop-j-preserved : goal.loop-j-preserved
 loop-j-preserved c =
     let few = c.loop-i.few in
-    let a = c.args in (
+(
       omega arith,
-      paste_more a.buf.now _ a.at few c.loop-j.j (omega arith) (omega arith) c.loop-j.invariant.1,
+      paste_more c.args.buf.now _ c.args.at few c.loop-j.j (omega arith) (omega arith) c.loop-j.invariant.1,
       simp length-set c.loop-j.invariant.2,
     )
 
 pub returns : goal.returns
 returns c =
-    let a = c.args in
     let few = c.loop-i.few in
-    let whole : c.loop-i.i ≡ length a.src.now = le_antisymm c.loop-i.invariant.0 c.loop-i-test.false in
+    let whole : c.loop-i.i ≡ length c.args.src.now = le_antisymm c.loop-i.invariant.0 c.loop-i-test.false in
     c.loop-j.invariant.1
-    ∙ ap (paste a.buf.now a.at few) (le_antisymm c.loop-j.invariant.0 c.loop-j-test.false)
-    ∙ paste_by a.buf.now few a.at a.src.now (ap (λ (n : ℕ). take n few) (sym whole) ∙ c.loop-i.invariant.1 ∙ ap (λ (n : ℕ). take n a.src.now) whole)
+    ∙ ap (paste c.args.buf.now c.args.at few) (le_antisymm c.loop-j.invariant.0 c.loop-j-test.false)
+    ∙ paste_by c.args.buf.now few c.args.at c.args.src.now (ap (λ (n : ℕ). take n few) (sym whole) ∙ c.loop-i.invariant.1 ∙ ap (λ (n : ℕ). take n c.args.src.now) whole)

@@ -5,4 +5,4 @@ use borrow.Author.Rules.{rules}
 use Rattle.tp_segment.proofs.SegmentAnswer.refusal.Goals as goal
 
 pub returns : goal.returns
-returns c = sym (ap segment_refusal c.self-1.given.1)
+returns c = sym (ap segment_refusal c.in-Refused.is)

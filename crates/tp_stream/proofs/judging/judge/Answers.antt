@@ -29,16 +29,15 @@ returns-then-malformed c = judged_malformed _ _ _ (sym c.malformed.ensures ∙ c
 
 pub returns-in_default : goal.returns-in_default
 returns-in_default c =
-    judged_unread _ _ _ (let good : bad_state (view c.args.s) ≡ false = sym c.malformed.ensures ∙ c.if-malformed.false in good) _ _ c.enum_told-1.given.1 c.read-answer.ensures
+    judged_unread _ _ _ (let good : bad_state (view c.args.s) ≡ false = sym c.malformed.ensures ∙ c.if-malformed.false in good) _ _ c.in_default.is c.read-answer.ensures
 
 pub returns-in_default-judged : goal.returns-in_default-judged
 returns-in_default-judged c =
-    let told = c.enum_told-in_default-judged-1.given.1 in
-    header_refused (view c.args.s) c.args.seg.now c.args.room (let fine : Good (view c.args.s) = (good_means (view c.args.s)).0 ((let good : bad_state (view c.args.s) ≡ false = sym c.malformed.ensures ∙ c.if-malformed.false in good) c) in fine) (let is_read : (is_segment c.args.seg.now ≡ true) × (c.answer-1.given.0.0 ≡ header_of c.args.seg.now) = reading_good c.args.seg.now c.answer-1.given.0.0 (ap segment_said (sym c.answer-1.given.1) ∙ c.read-answer.ensures) in is_read).0 _ ((let judged_so : by_header (view c.args.s) c.args.seg.now c.args.room ≡ verdict_said c.judge_header-judged.result = sym (c.judge_header-judged.ensures ∙ (λ i. header_judged c.args.s.limit c.args.s.end ((let reaches : c.least_end-least.result ≡ cond (more c.args.seg.now) 0 (greatest_end (view c.args.s).ranges) = least_held c.args.s c.answer-1.given.0.0.more _ ((let good : bad_state (view c.args.s) ≡ false = sym c.malformed.ensures ∙ c.if-malformed.false in good) c) ((let long : length c.args.s.ranges ≡ most = search (rules, length_of_map) in long) c) c.least_end-least.ensures ∙ ap (λ (h : TpHeader). cond h.more 0 (greatest_end (view c.args.s).ranges)) (let is_read : (is_segment c.args.seg.now ≡ true) × (c.answer-1.given.0.0 ≡ header_of c.args.seg.now) = reading_good c.args.seg.now c.answer-1.given.0.0 (ap segment_said (sym c.answer-1.given.1) ∙ c.read-answer.ensures) in is_read).1 in reaches) i) ((let is_read : (is_segment c.args.seg.now ≡ true) × (c.answer-1.given.0.0 ≡ header_of c.args.seg.now) = reading_good c.args.seg.now c.answer-1.given.0.0 (ap segment_said (sym c.answer-1.given.1) ∙ c.read-answer.ensures) in is_read).1 i) c.args.room)) in judged_so) ∙ ap verdict_said told)
-    ∙ ap (λ (r : Refusal). refused (said r)) (sym (c.refusal.ensures ∙ ap verdict_refusal told))
+    header_refused (view c.args.s) c.args.seg.now c.args.room (let fine : Good (view c.args.s) = (good_means (view c.args.s)).0 (let good : bad_state (view c.args.s) ≡ false = sym c.malformed.ensures ∙ c.if-malformed.false in good) in fine) (let is_read : (is_segment c.args.seg.now ≡ true) × (c.in-Good.header ≡ header_of c.args.seg.now) = reading_good c.args.seg.now c.in-Good.header (ap segment_said (sym c.in-Good.is) ∙ c.read-answer.ensures) in is_read).0 _ ((let judged_so : by_header (view c.args.s) c.args.seg.now c.args.room ≡ verdict_said c.judge_header-judged.result = sym (c.judge_header-judged.ensures ∙ (λ i. header_judged c.args.s.limit c.args.s.end ((let reaches : c.least_end-least.result ≡ cond (more c.args.seg.now) 0 (greatest_end (view c.args.s).ranges) = least_held c.args.s c.in-Good.header.more _ (let good : bad_state (view c.args.s) ≡ false = sym c.malformed.ensures ∙ c.if-malformed.false in good) (let long : length c.args.s.ranges ≡ most = search (rules, length_of_map) in long) c.least_end-least.ensures ∙ ap (λ (h : TpHeader). cond h.more 0 (greatest_end (view c.args.s).ranges)) (let is_read : (is_segment c.args.seg.now ≡ true) × (c.in-Good.header ≡ header_of c.args.seg.now) = reading_good c.args.seg.now c.in-Good.header (ap segment_said (sym c.in-Good.is) ∙ c.read-answer.ensures) in is_read).1 in reaches) i) ((let is_read : (is_segment c.args.seg.now ≡ true) × (c.in-Good.header ≡ header_of c.args.seg.now) = reading_good c.args.seg.now c.in-Good.header (ap segment_said (sym c.in-Good.is) ∙ c.read-answer.ensures) in is_read).1 i) c.args.room)) in judged_so) ∙ ap verdict_said c.in_default-judged.is)
+    ∙ ap (λ (r : Refusal). refused (said r)) (sym (c.refusal.ensures ∙ ap verdict_refusal c.in_default-judged.is))
 
 pub returns : goal.returns
 returns c =
     let p = view c.args.s in
-    subst (Passed p c.args.seg.now c.args.room) (sym (let is_read : (is_segment c.args.seg.now ≡ true) × (c.answer-1.given.0.0 ≡ header_of c.args.seg.now) = reading_good c.args.seg.now c.answer-1.given.0.0 (ap segment_said (sym c.answer-1.given.1) ∙ c.read-answer.ensures) in is_read).1)
-    (header_passed p c.args.seg.now c.args.room (let fine : Good (view c.args.s) = (good_means (view c.args.s)).0 ((let good : bad_state (view c.args.s) ≡ false = sym c.malformed.ensures ∙ c.if-malformed.false in good) c) in fine) (let is_read : (is_segment c.args.seg.now ≡ true) × (c.answer-1.given.0.0 ≡ header_of c.args.seg.now) = reading_good c.args.seg.now c.answer-1.given.0.0 (ap segment_said (sym c.answer-1.given.1) ∙ c.read-answer.ensures) in is_read).0 ((let judged_so : by_header (view c.args.s) c.args.seg.now c.args.room ≡ verdict_said c.judge_header-judged.result = sym (c.judge_header-judged.ensures ∙ (λ i. header_judged c.args.s.limit c.args.s.end ((let reaches : c.least_end-least.result ≡ cond (more c.args.seg.now) 0 (greatest_end (view c.args.s).ranges) = least_held c.args.s c.answer-1.given.0.0.more _ ((let good : bad_state (view c.args.s) ≡ false = sym c.malformed.ensures ∙ c.if-malformed.false in good) c) ((let long : length c.args.s.ranges ≡ most = search (rules, length_of_map) in long) c) c.least_end-least.ensures ∙ ap (λ (h : TpHeader). cond h.more 0 (greatest_end (view c.args.s).ranges)) (let is_read : (is_segment c.args.seg.now ≡ true) × (c.answer-1.given.0.0 ≡ header_of c.args.seg.now) = reading_good c.args.seg.now c.answer-1.given.0.0 (ap segment_said (sym c.answer-1.given.1) ∙ c.read-answer.ensures) in is_read).1 in reaches) i) ((let is_read : (is_segment c.args.seg.now ≡ true) × (c.answer-1.given.0.0 ≡ header_of c.args.seg.now) = reading_good c.args.seg.now c.answer-1.given.0.0 (ap segment_said (sym c.answer-1.given.1) ∙ c.read-answer.ensures) in is_read).1 i) c.args.room)) in judged_so) ∙ ap verdict_said c.enum_told-in-Passed-1.given.1))
+    subst (Passed p c.args.seg.now c.args.room) (sym (let is_read : (is_segment c.args.seg.now ≡ true) × (c.in-Good.header ≡ header_of c.args.seg.now) = reading_good c.args.seg.now c.in-Good.header (ap segment_said (sym c.in-Good.is) ∙ c.read-answer.ensures) in is_read).1)
+    (header_passed p c.args.seg.now c.args.room (let fine : Good (view c.args.s) = (good_means (view c.args.s)).0 (let good : bad_state (view c.args.s) ≡ false = sym c.malformed.ensures ∙ c.if-malformed.false in good) in fine) (let is_read : (is_segment c.args.seg.now ≡ true) × (c.in-Good.header ≡ header_of c.args.seg.now) = reading_good c.args.seg.now c.in-Good.header (ap segment_said (sym c.in-Good.is) ∙ c.read-answer.ensures) in is_read).0 ((let judged_so : by_header (view c.args.s) c.args.seg.now c.args.room ≡ verdict_said c.judge_header-judged.result = sym (c.judge_header-judged.ensures ∙ (λ i. header_judged c.args.s.limit c.args.s.end ((let reaches : c.least_end-least.result ≡ cond (more c.args.seg.now) 0 (greatest_end (view c.args.s).ranges) = least_held c.args.s c.in-Good.header.more _ (let good : bad_state (view c.args.s) ≡ false = sym c.malformed.ensures ∙ c.if-malformed.false in good) (let long : length c.args.s.ranges ≡ most = search (rules, length_of_map) in long) c.least_end-least.ensures ∙ ap (λ (h : TpHeader). cond h.more 0 (greatest_end (view c.args.s).ranges)) (let is_read : (is_segment c.args.seg.now ≡ true) × (c.in-Good.header ≡ header_of c.args.seg.now) = reading_good c.args.seg.now c.in-Good.header (ap segment_said (sym c.in-Good.is) ∙ c.read-answer.ensures) in is_read).1 in reaches) i) ((let is_read : (is_segment c.args.seg.now ≡ true) × (c.in-Good.header ≡ header_of c.args.seg.now) = reading_good c.args.seg.now c.in-Good.header (ap segment_said (sym c.in-Good.is) ∙ c.read-answer.ensures) in is_read).1 i) c.args.room)) in judged_so) ∙ ap verdict_said c.in-Passed.is))

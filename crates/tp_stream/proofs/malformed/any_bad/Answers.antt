@@ -17,13 +17,13 @@ loop-i-init c = λ p e k. refl
 pub returns-then-bad_range : goal.returns-then-bad_range
 returns-then-bad_range c =
     λ p e k.
-    sym (any_hit _ _ _ none c.loop-i-test.true (omega (arith, (let long : length c.args.t3 ≡ most = search rules in long))) (bad_range p) (sym (c.bad_range.ensures p e k) ∙ c.if-bad_range.true))
+    sym (any_hit _ _ _ none c.loop-i-test.true (omega (arith, (let long : length c.args.ranges ≡ most = search rules in long))) (bad_range p) (sym (c.bad_range.ensures p e k) ∙ c.if-bad_range.true))
     ∙ c.loop-i.invariant p e k
 
 pub loop-i-preserved : goal.loop-i-preserved
 loop-i-preserved c =
     λ p e k.
-    any_miss _ _ _ none c.loop-i-test.true (omega (arith, (let long : length c.args.t3 ≡ most = search rules in long))) (bad_range p) (sym (c.bad_range.ensures p e k) ∙ c.if-bad_range.false)
+    any_miss _ _ _ none c.loop-i-test.true (omega (arith, (let long : length c.args.ranges ≡ most = search rules in long))) (bad_range p) (sym (c.bad_range.ensures p e k) ∙ c.if-bad_range.false)
     ∙ c.loop-i.invariant p e k
 
 pub returns : goal.returns

@@ -3,4 +3,4 @@ use borrow.Author.Rules.{rules}
 use Rattle.tp_stream.proofs.malformed.end_past.Goals as goal
 
 pub returns-in-Known : goal.returns-in-Known
-returns-in-Known c = rw c.end-1.given.1
+returns-in-Known c = rw c.in-Known.is

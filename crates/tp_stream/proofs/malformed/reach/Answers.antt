@@ -5,7 +5,7 @@ use borrow.Author.Rules.{rules}
 use Rattle.tp_stream.proofs.malformed.reach.Goals as goal
 
 pub returns-in-Unknown : goal.returns-in-Unknown
-returns-in-Unknown c = λ p e q. reach_limit p _ e (q ∙ c.enum_told-1.given.1)
+returns-in-Unknown c = λ p e q. reach_limit p _ e (q ∙ c.in-Unknown.is)
 
 pub returns-in-Known : goal.returns-in-Known
-returns-in-Known c = λ p e q. reach_end p _ _ _ c.requires e q c.end-1.given.1
+returns-in-Known c = λ p e q. reach_end p _ _ _ c.requires e q c.in-Known.is

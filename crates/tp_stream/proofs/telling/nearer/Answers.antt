@@ -4,15 +4,12 @@ use Rattle.tp_stream.proofs.telling.nearer.Goals as goal
 
 pub returns-then-r-from : goal.returns-then-r-from
 returns-then-r-from c =
-    let a = c.args in
-    too_early a.from a.r a.first a.found c.if-r-from.true
+    too_early c.args.from c.args.r c.args.first c.args.found c.if-r-from.true
 
 pub returns-then-found : goal.returns-then-found
 returns-then-found c =
-    let a = c.args in
-    found_already a.from a.r a.first a.found c.if-r-from.false c.if-found.true
+    found_already c.args.from c.args.r c.args.first c.args.found c.if-r-from.false c.if-found.true
 
 pub returns : goal.returns
 returns c =
-    let a = c.args in
-    none_yet a.from a.r a.first a.found c.if-r-from.false c.if-found.false
+    none_yet c.args.from c.args.r c.args.first c.args.found c.if-r-from.false c.if-found.false

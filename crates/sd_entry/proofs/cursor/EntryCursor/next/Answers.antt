@@ -9,12 +9,12 @@ pub returns-then-s-at : goal.returns-then-s-at
 returns-then-s-at c = step_ended _ _ c.if-s-at.true
 
 pub returns-in_default : goal.returns-in_default
-returns-in_default c = step_within _ _ c.if-s-at.false c.read_entry-answer.ensures c.enum_told-in_default-1.given.1 refl
+returns-in_default c = step_within _ _ c.if-s-at.false c.read_entry-answer.ensures c.in_default.is refl
 
 pub overflow_add-result : goal.overflow_add-result
 overflow_add-result c =
-    let fits = step_fits c.args.s.now c.args.self.at c.if-s-at.false c.read_entry-answer.ensures c.enum_told-1.given.1 refl in
+    let fits = step_fits c.args.s.now c.args.self.at c.if-s-at.false c.read_entry-answer.ensures c.in-Good.is refl in
     search rules
 
 pub returns : goal.returns
-returns c = step_within _ _ c.if-s-at.false c.read_entry-answer.ensures c.enum_told-1.given.1 refl
+returns c = step_within _ _ c.if-s-at.false c.read_entry-answer.ensures c.in-Good.is refl

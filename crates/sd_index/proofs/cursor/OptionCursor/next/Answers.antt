@@ -23,20 +23,18 @@ told c =
 
 pub returns-then-options-at : goal.returns-then-options-at
 returns-then-options-at c =
-    let args = c.args in
-    option_stepped _ _ _ _ (next_ended (settings_said args.settings) args.options.now args.self.at.0 c.if-options-at.true) refl
+    option_stepped _ _ _ _ (next_ended (settings_said c.args.settings) c.args.options.now c.args.self.at.0 c.if-options-at.true) refl
 
 pub returns-in_default : goal.returns-in_default
 returns-in_default c =
     let at = c.args.self.at.0 in
-    option_stepped _ _ _ _ (told c) (sym (ap (λ (x : OptionAnswer). stands behind_head (option_said x) at) c.enum_told-1.given.1))
+    option_stepped _ _ _ _ (told c) (sym (ap (λ (x : OptionAnswer). stands behind_head (option_said x) at) c.in_default.is))
 
 pub overflow_add-result : goal.overflow_add-result
 overflow_add-result c =
-    let args = c.args in
-    let fits = step_fits (settings_said args.settings) args.options.now args.self.at.0 _ c.option_at.ensures c.if-options-at.false _ c.read_option-answer.ensures _ c.answer-1.given.1 in
+    let fits = step_fits (settings_said c.args.settings) c.args.options.now c.args.self.at.0 _ c.option_at.ensures c.if-options-at.false _ c.read_option-answer.ensures _ c.in-Good.is in
     omega (arith, fits, c)
 
 pub returns : goal.returns
 returns c =
-    option_stepped _ _ _ _ (sym (ap option_said c.answer-1.given.1) ∙ told c) refl
+    option_stepped _ _ _ _ (sym (ap option_said c.in-Good.is) ∙ told c) refl

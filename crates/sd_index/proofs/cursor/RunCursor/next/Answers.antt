@@ -12,26 +12,22 @@ use Rattle.sd_index.proofs.cursor.RunCursor.next.Goals as goal
 
 pub returns-then-self-eq0 : goal.returns-then-self-eq0
 returns-then-self-eq0 c =
-    let args = c.args in
-    let r = run_said args.self in
-    run_stepped _ _ _ r _ (run_ended args.options.now args.table.now args.count r (omega arith)) refl
+    let r = run_said c.args.self in
+    run_stepped _ _ _ r _ (run_ended c.args.options.now c.args.table.now c.args.count r (omega arith)) refl
 
 pub returns-in_default : goal.returns-in_default
 returns-in_default c =
-    let args = c.args in
-    let r = run_said args.self in
-    run_stepped _ _ _ r _ (run_told args.options.now args.table.now args.count r (λ e. omega arith) c.look_up-answer.ensures)
-    (sym (ap (λ (x : FoundAnswer). stands along_told (found_said x) r) c.enum_told-in_default-1.given.1))
+    let r = run_said c.args.self in
+    run_stepped _ _ _ r _ (run_told c.args.options.now c.args.table.now c.args.count r (λ e. omega arith) c.look_up-answer.ensures)
+    (sym (ap (λ (x : FoundAnswer). stands along_told (found_said x) r) c.in_default.is))
 
 pub overflow_add-result : goal.overflow_add-result
 overflow_add-result c =
-    let args = c.args in
-    let below = found_below args.options.now args.table.now args.count args.self.next.0 _ _ c.look_up-answer.ensures c.enum_told-1.given.1 in
+    let below = found_below c.args.options.now c.args.table.now c.args.count c.args.self.next.0 _ _ c.look_up-answer.ensures c.in-Good.is in
     search rules
 
 pub returns : goal.returns
 returns c =
-    let args = c.args in
-    let r = run_said args.self in
-    run_stepped _ _ _ r _ (run_told args.options.now args.table.now args.count r (λ e. omega arith) c.look_up-answer.ensures)
-    (sym (ap (λ (x : FoundAnswer). stands along_told (found_said x) r) c.enum_told-1.given.1))
+    let r = run_said c.args.self in
+    run_stepped _ _ _ r _ (run_told c.args.options.now c.args.table.now c.args.count r (λ e. omega arith) c.look_up-answer.ensures)
+    (sym (ap (λ (x : FoundAnswer). stands along_told (found_said x) r) c.in-Good.is))

@@ -5,4 +5,4 @@ use Rattle.sd_option.specs.Reading.{option_refusal}
 use Rattle.sd_option.proofs.reading.OptionAnswer.refusal.Goals as goal
 
 pub returns : goal.returns
-returns c = sym (ap option_refusal c.self-1.given.1)
+returns c = sym (ap option_refusal c.in-Refused.is)
