@@ -11,7 +11,6 @@ use Rattle.config_string.proofs.ClassLaws.{OfKey, Told, told, Joined, joined}
 use Rattle.config_string.proofs.KeyLaws.{key_left, left_whole, left_end, left_equals, left_bad, left_good}
 use Rattle.config_string.proofs.check_key.Given as goal
 
-
 abbrev pub invariant-loop-i : goal.invariant-loop-i
 invariant-loop-i l = (judge_key l.at (key_of l.item) ≡ key_left l.at l.item l.i (eqb l.seen space)) × OfKey l.seen
 

@@ -14,7 +14,6 @@ use Rattle.sd_format.proofs.StringLaws.{items_left, left_whole, left_end, left_t
 use Rattle.config_string.proofs.ItemLaws.{judged, within}
 use Rattle.config_string.proofs.check_string.Given as goal
 
-
 abbrev pub invariant-loop-at : goal.invariant-loop-at
 invariant-loop-at l = verdict (read_string l.s) ≡ verdict (items_left l.s l.at)
 

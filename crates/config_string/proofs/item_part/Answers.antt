@@ -7,23 +7,22 @@ use Rattle.numbers.proofs.AnswerLaws.{given_refused}
 use Rattle.refusal.specs.Said.{count_said}
 use Rattle.config_string.proofs.ItemLaws.{Found, found}
 use Rattle.config_string.proofs.item_part.Goals as goal
-use Rattle.config_string.proofs.item_part.Goals.{In-Good}
-
--- the item that was found
-item : (c : In-Good)
-    → Found c.args.s.now c.args.at c.in-Good.next
-item c =
-    found c.args.s.now c.args.at _ (sym c.next_item-answer.ensures ∙ ap count_said c.in-Good.is)
 
 pub returns-in_default : goal.returns-in_default
 returns-in_default c =
     sym (ap part (given_refused _ _ _ (sym c.next_item-answer.ensures ∙ ap count_said c.in_default.is)))
 
 pub overflow_add-start : goal.overflow_add-start
-overflow_add-start c = let here = item c in omega arith
+overflow_add-start c = let here : Found c.args.s.now c.args.at c.in-Good.next = found c.args.s.now c.args.at _ (sym c.next_item-answer.ensures ∙ ap count_said c.in-Good.is) in omega arith
 
 pub slice_bounds-result-count : goal.slice_bounds-result-count
-slice_bounds-result-count c = let here = item c in omega arith
+slice_bounds-result-count c = let here : Found c.args.s.now c.args.at c.in-Good.next = found c.args.s.now c.args.at _ (sym c.next_item-answer.ensures ∙ ap count_said c.in-Good.is) in omega arith
+
+pub slice_bounds-result-start : goal.slice_bounds-result-start
+slice_bounds-result-start c = let here : Found c.args.s.now c.args.at c.in-Good.next = found c.args.s.now c.args.at _ (sym c.next_item-answer.ensures ∙ ap count_said c.in-Good.is) in omega arith
+
+pub slice_bounds-result-end-2 : goal.slice_bounds-result-end-2
+slice_bounds-result-end-2 c = let here : Found c.args.s.now c.args.at c.in-Good.next = found c.args.s.now c.args.at _ (sym c.next_item-answer.ensures ∙ ap count_said c.in-Good.is) in omega arith
 
 pub returns : goal.returns
-returns c = sym (ap part (item c).bytes)
+returns c = let here : Found c.args.s.now c.args.at c.in-Good.next = found c.args.s.now c.args.at _ (sym c.next_item-answer.ensures ∙ ap count_said c.in-Good.is) in sym (ap part here.bytes)
