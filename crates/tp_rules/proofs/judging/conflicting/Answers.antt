@@ -1,7 +1,6 @@
 -- `tp_rules::judging::conflicting` meets its contract: by the tests in their order. Assumes nothing.
 use mathlib.Core.Path.{sym}
 use Rattle.tp_rules.proofs.JudgingLaws.{conflict_past, conflict_more, conflict_last}
-use borrow.Author.Rules.{rules}
 use Rattle.tp_rules.proofs.judging.conflicting.Goals as goal
 
 pub returns-then-e-x : goal.returns-then-e-x

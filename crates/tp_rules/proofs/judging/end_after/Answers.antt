@@ -1,5 +1,4 @@
 -- `tp_rules::judging::end_after` meets its contract. Assumes nothing.
-use borrow.Author.Rules.{rules}
 use Rattle.tp_rules.proofs.judging.end_after.Goals as goal
 
 pub returns : goal.returns

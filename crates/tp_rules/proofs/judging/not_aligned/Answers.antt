@@ -3,7 +3,6 @@ use Prim.Native.Nat.{◌%◌}
 use mathlib.Core.Path.{sym, ap}
 use mathlib.Core.Bool.{Bool, ◌&&◌, not}
 use lib.Dec.{eqb}
-use borrow.Author.Rules.{rules}
 use Rattle.tp_rules.proofs.judging.not_aligned.Goals as goal
 
 pub returns-then-header : goal.returns-then-header

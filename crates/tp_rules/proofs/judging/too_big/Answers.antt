@@ -1,6 +1,5 @@
 -- `tp_rules::judging::too_big` meets its contract: an offset past the limit, or a length past what is left. Assumes nothing.
 use Rattle.tp_rules.proofs.JudgingLaws.{past_limit, left_over}
-use borrow.Author.Rules.{rules}
 use Rattle.tp_rules.proofs.judging.too_big.Goals as goal
 
 pub returns-then-limit-header : goal.returns-then-limit-header

@@ -5,7 +5,6 @@ use native.Mathlib.Omega.{arith}
 use Rattle.numbers.specs.Refusals.{buffer_too_short}
 use Rattle.numbers.specs.Answers.{Answer, refused}
 use Rattle.tp_rules.proofs.TakingLaws.{one_not, one_short, one_end}
-use borrow.Author.Rules.{rules}
 use Rattle.tp_rules.proofs.taking.ready_of.Goals as goal
 
 pub returns-then-room-needed : goal.returns-then-room-needed

@@ -1,6 +1,5 @@
 -- `tp_rules::taking::whole` meets its contract. Assumes nothing.
 use Rattle.tp_rules.proofs.TakingLaws.{whole_many, whole_first}
-use borrow.Author.Rules.{rules}
 use Rattle.tp_rules.proofs.taking.whole.Goals as goal
 
 pub returns-then-count-ne1 : goal.returns-then-count-ne1

@@ -6,7 +6,6 @@ use lib.ListN.{length, take, get_or, set}
 use lib.Seq.{length-take-le}
 use Rattle.tp_machine.specs.Segments.{header, without_tp}
 use Rattle.tp_rules.proofs.WritingLaws.{head_pasted}
-use borrow.Author.Rules.{rules}
 use Rattle.tp_rules.proofs.writing.put_header.Goals as goal
 
 pub slice_bounds-put-end : goal.slice_bounds-put-end

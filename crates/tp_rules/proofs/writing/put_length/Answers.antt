@@ -4,7 +4,6 @@ use native.Mathlib.Omega.{arith}
 use lib.ListN.{length-set}
 use Rattle.numbers.specs.Bytes.{be16, be32}
 use Rattle.tp_rules.proofs.WritingLaws.{four, no_field, end_too_high, length_fits}
-use borrow.Author.Rules.{rules}
 use Rattle.tp_rules.proofs.writing.put_length.Goals as goal
 
 pub returns-then-buf-lt8 : goal.returns-then-buf-lt8
