@@ -1,6 +1,5 @@
 -- `tp_stream::begin` meets its contract. Assumes nothing.
 use Rattle.tp_stream.proofs.StreamLaws.{began_not, began_well}
-use borrow.Author.Rules.{rules}
 use Rattle.tp_stream.proofs.begin.Goals as goal
 
 pub returns-in_default : goal.returns-in_default

@@ -4,7 +4,6 @@ use lib.ListN.{length}
 use Rattle.tp_stream.specs.Stream.{view}
 use Rattle.tp_stream.specs.Promises.{Judges}
 use Rattle.tp_stream.proofs.StepLaws.{ran_judged}
-use borrow.Author.Rules.{rules}
 use Rattle.tp_stream.proofs.consume.Goals as goal
 
 pub returns-in_default : goal.returns-in_default

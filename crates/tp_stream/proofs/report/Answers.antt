@@ -9,7 +9,6 @@ use Rattle.tp_machine.specs.Taking.{ready, report}
 use Rattle.refusal.specs.Said.{count_said}
 use Rattle.tp_stream.specs.Stream.{view}
 use Rattle.tp_machine.proofs.Steps.{ready_tells}
-use borrow.Author.Rules.{rules}
 use Rattle.tp_stream.proofs.report.Goals as goal
 
 pub returns-in_default : goal.returns-in_default

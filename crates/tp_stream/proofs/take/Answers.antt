@@ -9,7 +9,6 @@ use Rattle.tp_rules.proofs.WritingLaws.{length_fits}
 use Rattle.tp_stream.specs.Stream.{view}
 use Rattle.tp_machine.proofs.Steps.{ready_tells}
 use Rattle.tp_stream.proofs.TakingLaws.{took_end, took_nothing}
-use borrow.Author.Rules.{rules}
 use Rattle.tp_stream.proofs.take.Goals as goal
 
 pub returns-in_default : goal.returns-in_default

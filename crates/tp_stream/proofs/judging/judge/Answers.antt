@@ -1,8 +1,6 @@
 -- `tp_stream::judging::judge` meets its contract: what reading and the header's tests say of each case. Assumes nothing.
 use mathlib.Core.Path.{◌≡◌, sym, ap, subst, ◌∙◌}
 use mathlib.Core.Bool.{cond, false, true}
-use mathlib.Core.List.{List}
-use Prim.Native.Nat.{ℕ}
 use lib.ListN.{length}
 use Rattle.numbers.specs.Answers.{refused}
 use Rattle.refusal.specs.Said.{said, verdict_said, verdict_refusal}
@@ -17,7 +15,6 @@ use Rattle.tp_segment.proofs.Laws.{reading_good}
 use Rattle.tp_machine.proofs.Tests.{good_means}
 use Rattle.tp_rules.specs.Judging.{header_judged, Passed}
 use Rattle.tp_rules.proofs.JudgingLaws.{by_header, header_passed, header_refused}
-use Rattle.tp_stream.specs.declared.TpStream.{TpStream}
 use Rattle.tp_stream.specs.Stream.{view}
 use Rattle.tp_stream.proofs.StreamLaws.{length_of_map}
 use Rattle.tp_stream.proofs.JudgingLaws.{least_held, judged_malformed, judged_unread}

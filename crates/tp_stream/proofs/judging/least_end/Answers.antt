@@ -1,5 +1,4 @@
 -- `tp_stream::judging::least_end` meets its contract: by whether more follows. Assumes nothing.
-use borrow.Author.Rules.{rules}
 use Rattle.tp_stream.proofs.judging.least_end.Goals as goal
 
 pub returns : goal.returns

@@ -1,12 +1,9 @@
 -- `tp_stream::malformed::any_bad` meets its contract: those passed are good, so the answer for all is the answer for the rest. Assumes nothing.
-use Prim.Native.Nat.{◌-◌}
 use mathlib.Core.Path.{◌≡◌, refl, sym, ◌∙◌}
 use native.Mathlib.Omega.{arith}
-use lib.ListN.{length, take, drop}
+use lib.ListN.{length}
 use Rattle.tp_range.specs.Joining.{none}
-use Rattle.tp_machine.specs.Ranges.{any}
-use Rattle.tp_machine.specs.Machine.{most, State, bad_range}
-use Rattle.tp_rules.specs.Malformed.{Reach}
+use Rattle.tp_machine.specs.Machine.{most, bad_range}
 use Rattle.tp_range.proofs.Laws.{any_hit, any_miss, any_end}
 use borrow.Author.Rules.{rules}
 use Rattle.tp_stream.proofs.malformed.any_bad.Goals as goal

@@ -1,5 +1,4 @@
 -- `tp_stream::malformed::end_past` meets its contract. Assumes nothing.
-use borrow.Author.Rules.{rules}
 use Rattle.tp_stream.proofs.malformed.end_past.Goals as goal
 
 pub returns-in-Known : goal.returns-in-Known

@@ -4,7 +4,6 @@ use mathlib.Core.Bool.{false}
 use lib.ListN.{length, take}
 use Rattle.tp_machine.specs.Ranges.{any}
 use Rattle.tp_machine.specs.Machine.{most, bad_range, end_past}
-use Rattle.tp_stream.specs.declared.TpStream.{TpStream}
 use Rattle.tp_stream.specs.Stream.{view}
 use Rattle.tp_stream.proofs.StreamLaws.{length_of_map}
 use Rattle.tp_stream.proofs.MalformedLaws.{more_than_most, too_high, too_late, one_bad, two_touch}
@@ -24,13 +23,16 @@ returns-then-end_past c =
 
 pub returns-then-any_bad : goal.returns-then-any_bad
 returns-then-any_bad c =
-    one_bad c.args.s c.if-s-gt-MAX_RANGES.false c.if-s-gt-MAX_LIMIT.false (let ends : end_past c.args.s.end c.args.s.limit ≡ false = sym c.end_past.ensures ∙ c.if-end_past.false in ends)
-    (let long : length c.args.s.ranges ≡ most = search (rules, length_of_map) in long) (sym (let one_is_bad : c.any_bad.result ≡ any (bad_range (view (c.args.s c))) (take (c.args.s c).count (c.args.s c).ranges) = λ =
-    let s. c.args.s c in c.any_bad.ensures (view s) (c.reach-top.ensures (view s) refl refl) refl in one_is_bad) ∙ c.if-any_bad.true)
+    let s = c.args.s in
+    let long : length s.ranges ≡ most = search (rules, length_of_map) in
+    let ends : end_past s.end s.limit ≡ false = sym c.end_past.ensures ∙ c.if-end_past.false in
+    let one_is_bad : c.any_bad.result ≡ any (bad_range (view s)) (take s.count s.ranges) = c.any_bad.ensures (view s) (c.reach-top.ensures (view s) refl refl) refl in
+    one_bad s c.if-s-gt-MAX_RANGES.false c.if-s-gt-MAX_LIMIT.false ends long (sym one_is_bad ∙ c.if-any_bad.true)
 
 pub returns : goal.returns
 returns c =
-    c.some_touch.ensures
-    ∙ two_touch c.args.s c.if-s-gt-MAX_RANGES.false c.if-s-gt-MAX_LIMIT.false (let ends : end_past c.args.s.end c.args.s.limit ≡ false = sym c.end_past.ensures ∙ c.if-end_past.false in ends)
-    (let long : length c.args.s.ranges ≡ most = search (rules, length_of_map) in long) (sym (let one_is_bad : c.any_bad.result ≡ any (bad_range (view (c.args.s c))) (take (c.args.s c).count (c.args.s c).ranges) = λ =
-    let s. c.args.s c in c.any_bad.ensures (view s) (c.reach-top.ensures (view s) refl refl) refl in one_is_bad) ∙ c.if-any_bad.false)
+    let s = c.args.s in
+    let long : length s.ranges ≡ most = search (rules, length_of_map) in
+    let ends : end_past s.end s.limit ≡ false = sym c.end_past.ensures ∙ c.if-end_past.false in
+    let one_is_bad : c.any_bad.result ≡ any (bad_range (view s)) (take s.count s.ranges) = c.any_bad.ensures (view s) (c.reach-top.ensures (view s) refl refl) refl in
+    c.some_touch.ensures ∙ two_touch s c.if-s-gt-MAX_RANGES.false c.if-s-gt-MAX_LIMIT.false ends long (sym one_is_bad ∙ c.if-any_bad.false)

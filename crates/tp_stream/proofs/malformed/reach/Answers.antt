@@ -1,7 +1,6 @@
 -- `tp_stream::malformed::reach` meets its contract: an end that is known is not past the limit, so it alone counts. Assumes nothing.
 use mathlib.Core.Path.{◌∙◌}
 use Rattle.tp_rules.proofs.MalformedLaws.{reach_limit, reach_end}
-use borrow.Author.Rules.{rules}
 use Rattle.tp_stream.proofs.malformed.reach.Goals as goal
 
 pub returns-in-Unknown : goal.returns-in-Unknown

@@ -1,7 +1,6 @@
 -- `tp_stream::telling::accepted` meets its contract. Assumes nothing.
 use mathlib.Core.Path.{sym, ◌∙◌}
 use Rattle.tp_stream.proofs.TellingLaws.{count_bad, count_good}
-use borrow.Author.Rules.{rules}
 use Rattle.tp_stream.proofs.telling.accepted.Goals as goal
 
 pub returns-then-malformed : goal.returns-then-malformed
