@@ -1,9 +1,8 @@
 -- `tp_words::held_in` meets its contract. In the loop the first i ranges stand in the array. Assumes nothing.
-use Prim.Native.Nat.{◌-◌, ◌≤◌}
 use mathlib.Core.Path.{◌≡◌, refl, ap, ◌∙◌}
 use native.Mathlib.Omega.{arith}
 use borrow.Author.Rules.{rules}
-use lib.ListN.{replicate, length}
+use lib.ListN.{replicate}
 use Rattle.tp_machine.specs.Machine.{most}
 use Rattle.tp_range.specs.Joining.{none}
 use Rattle.tp_words.specs.Words.{ranges_in}

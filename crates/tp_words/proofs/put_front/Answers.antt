@@ -1,6 +1,5 @@
 -- `tp_words::put_front` meets its contract. Assumes nothing.
 use native.Mathlib.Omega.{arith}
-use borrow.Author.Rules.{rules}
 use lib.ListN.{length-set}
 use Rattle.tp_words.proofs.WordLaws.{put_five}
 use Rattle.tp_words.proofs.put_front.Goals as goal

@@ -1,7 +1,6 @@
 -- `tp_words::stream_of` meets its contract. Assumes nothing.
 use mathlib.Core.Path.{sym, ◌∙◌}
 use Rattle.tp_words.proofs.PutLaws.{fit, not_told, told}
-use borrow.Author.Rules.{rules}
 use Rattle.tp_words.proofs.stream_of.Goals as goal
 
 pub returns-then-unfit : goal.returns-then-unfit

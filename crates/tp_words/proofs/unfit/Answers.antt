@@ -1,7 +1,6 @@
 -- `tp_words::unfit` meets its contract: by the tests in their order. Assumes nothing.
 use mathlib.Core.Path.{sym}
 use Rattle.tp_words.proofs.PutLaws.{too_few, enough}
-use borrow.Author.Rules.{rules}
 use Rattle.tp_words.proofs.unfit.Goals as goal
 
 pub returns-then-words-lt-WORDS : goal.returns-then-words-lt-WORDS
