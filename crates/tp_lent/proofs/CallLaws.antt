@@ -1,5 +1,5 @@
 -- The calls over lent words, from what is done in place and from what the calls by value promise. Assumes nothing.
-use Prim.Native.Nat.{ℕ, ◌+◌, ◌≤◌}
+use Prim.Native.Nat.{ℕ, ◌≤◌}
 use mathlib.Core.Path.{◌≡◌, sym, ap, ap₂, ◌∙◌}
 use mathlib.Core.Bool.{Bool, true, false, cond}
 use mathlib.Core.List.{List, ◌∷◌, ◌++◌}
@@ -12,7 +12,6 @@ use Rattle.numbers.proofs.AnswerLaws.{when_hit, when_pass}
 use Rattle.numbers.proofs.TestLaws.{and_inv}
 use Rattle.refusal.specs.declared.Refusal.{Refusal}
 use Rattle.refusal.specs.declared.Refusal.TheVariants.{MalformedState}
-use Rattle.refusal.specs.declared.answers.Verdict.{Verdict}
 use Rattle.refusal.specs.declared.answers.Verdict.TheVariants as verdict
 use Rattle.refusal.specs.Said.{verdict_said}
 use Rattle.tp_machine.specs.declared.TpRange.{TpRange}

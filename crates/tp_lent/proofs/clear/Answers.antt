@@ -2,7 +2,6 @@
 use mathlib.Core.Path.{sym, ◌∙◌}
 use Rattle.tp_words.proofs.PutLaws.{fit}
 use Rattle.tp_lent.proofs.CallLaws.{cleared_not, cleared_in_place}
-use borrow.Author.Rules.{rules}
 use Rattle.tp_lent.proofs.clear.Goals as goal
 
 pub returns-then-unfit : goal.returns-then-unfit

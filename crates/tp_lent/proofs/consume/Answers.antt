@@ -1,6 +1,5 @@
 -- `tp_lent::consume` meets its contract: what is planned is what the machine accepts, and all else is done by value. Assumes nothing.
 use Rattle.tp_lent.proofs.CallLaws.{joined_in_place}
-use borrow.Author.Rules.{rules}
 use Rattle.tp_lent.proofs.consume.Goals as goal
 
 pub carry_out-requires : goal.carry_out-requires

@@ -1,7 +1,6 @@
 -- `tp_lent::consume_by_value` meets its contract: an accepted segment's state is put back, a refusal touches nothing. Assumes nothing.
 use mathlib.Core.Path.{refl}
 use Rattle.tp_lent.proofs.CallLaws.{joined_by_value, refused_by_value}
-use borrow.Author.Rules.{rules}
 use Rattle.tp_lent.proofs.consume_by_value.Goals as goal
 
 pub returns-in_default : goal.returns-in_default

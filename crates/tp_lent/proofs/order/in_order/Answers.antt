@@ -1,14 +1,11 @@
 -- `tp_lent::order::in_order` meets its contract. Assumes nothing.
-use Prim.Native.Nat.{ℕ}
 use mathlib.Core.Path.{◌≡◌, sym, subst, ◌∙◌}
 use mathlib.Core.Bool.{false}
-use mathlib.Core.List.{List}
 use native.Mathlib.Omega.{arith}
 use Rattle.tp_rules.specs.Malformed.{Reach}
 use Rattle.tp_words.specs.Words.{state_of}
 use Rattle.tp_lent.specs.Lent.{unready}
 use Rattle.tp_lent.proofs.ReadyLaws.{enough, few, reach, count_is}
-use borrow.Author.Rules.{rules}
 use Rattle.tp_lent.proofs.order.in_order.Goals as goal
 
 pub returns-then-unready : goal.returns-then-unready

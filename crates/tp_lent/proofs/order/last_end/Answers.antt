@@ -2,7 +2,6 @@
 use mathlib.Core.Path.{ap}
 use borrow.Author.Tests.{eq-eqb, ne_eqb}
 use Rattle.tp_machine.specs.declared.TpRange.{TpRange}
-use borrow.Author.Rules.{rules}
 use Rattle.tp_lent.proofs.order.last_end.Goals as goal
 
 pub returns-then-count-eq0 : goal.returns-then-count-eq0

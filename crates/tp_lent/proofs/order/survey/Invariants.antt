@@ -1,26 +1,15 @@
 use Prim.Native.Nat.{ℕ, ◌+◌, ◌-◌, ◌≤◌, ◌<◌}
-use mathlib.Core.Path.{◌≡◌, refl, sym, ap, ◌∙◌}
-use mathlib.Core.Bool.{Bool, true, false, cond, false≢true}
-use lib.Dec.{ltb, leb}
+use mathlib.Core.Path.{◌≡◌}
+use mathlib.Core.Bool.{false}
 use mathlib.Core.List.{List}
-use native.Mathlib.Omega.{arith}
-use lib.ListN.{length, take, drop, get_or}
-use Rattle.tp_machine.specs.declared.TpRange.{TpRange}
+use lib.ListN.{take, drop, get_or}
 use Rattle.tp_machine.specs.Lists.{counted}
 use Rattle.tp_machine.specs.Ranges.{ends_before, begins_by}
 use Rattle.tp_machine.specs.Machine.{most, State, bad_range}
 use Rattle.tp_rules.specs.Malformed.{Reach}
-use Rattle.tp_range.specs.Joining.{none}
 use Rattle.tp_range.specs.Ordered.{rising}
-use Rattle.tp_range.proofs.OrderLaws.{rising_low, rising_bad, rising_next, rising_done}
 use Rattle.tp_words.specs.Words.{ranges_in}
-use Rattle.tp_words.proofs.WordLaws.{in_length}
-use Rattle.tp_lent.proofs.PlaceLaws.{ranges_at}
-use borrow.Author.Rules.{rules}
-use borrow.Author.Tests.{ltb-true, ltb-false}
-use Rattle.tp_lent.proofs.RisingLaws.{free_forth, bad_anyway, bad_past, fine_within, counted_next, counted_done}
 use Rattle.tp_lent.proofs.order.survey.Given as goal
-
 
 pub record Held (ws : List ℕ) (count top start end low before behind i : ℕ) : Type 0 where
   pub upto : i ≤ count

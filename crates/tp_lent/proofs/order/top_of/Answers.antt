@@ -1,6 +1,5 @@
 -- `tp_lent::order::top_of` meets its contract. Assumes nothing.
 use borrow.Author.Tests.{eq-eqb, ne_eqb}
-use borrow.Author.Rules.{rules}
 use Rattle.tp_lent.proofs.order.top_of.Goals as goal
 
 pub returns-then-words-eq0 : goal.returns-then-words-eq0

@@ -8,7 +8,6 @@ use lib.Dec.{ltb}
 use lib.ListN.{length, get_or}
 use Rattle.tp_words.specs.Words.{size, unfit}
 use Rattle.tp_words.proofs.PutLaws.{fit}
-use borrow.Author.Rules.{rules}
 use Rattle.tp_lent.proofs.order.unready.Goals as goal
 
 pub returns-then-unfit : goal.returns-then-unfit

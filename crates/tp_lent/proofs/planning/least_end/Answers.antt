@@ -1,5 +1,4 @@
 -- `tp_lent::planning::least_end` meets its contract. Assumes nothing.
-use borrow.Author.Rules.{rules}
 use Rattle.tp_lent.proofs.planning.least_end.Goals as goal
 
 pub returns : goal.returns

@@ -4,7 +4,6 @@ use mathlib.Core.Bool.{false≢true}
 use lib.ListN.{get_or}
 use Rattle.refusal.specs.Said.{verdict_said}
 use Rattle.tp_rules.specs.Judging.{header_judged}
-use borrow.Author.Rules.{rules}
 use Rattle.tp_lent.proofs.planning.passes.Goals as goal
 
 pub returns-then-header-gt-AT_ONCE : goal.returns-then-header-gt-AT_ONCE

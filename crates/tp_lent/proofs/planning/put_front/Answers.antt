@@ -2,7 +2,6 @@
 use native.Mathlib.Omega.{arith}
 use lib.ListN.{length-set}
 use Rattle.tp_lent.proofs.PlaceLaws.{put_four}
-use borrow.Author.Rules.{rules}
 use Rattle.tp_lent.proofs.planning.put_front.Goals as goal
 
 pub bounds-words-2 : goal.bounds-words-2
@@ -16,4 +15,4 @@ bounds-words-4 c = simp length-set (omega (arith, c.requires))
 
 pub returns : goal.returns
 returns c =
-    put_four c.args.words.now c.args.count _ _ c.args.accepted _ _ (omega (arith, c.requires)) c.Known-of.ensures c.previous_end.ensures
+    put_four c.args.words.now c.args.count _ _ c.args.accepted _ _ (omega (arith, c.requires)) c.known_of.ensures c.previous_end.ensures

@@ -1,7 +1,6 @@
 -- `tp_lent::ranges::put_range` meets its contract. Assumes nothing.
 use native.Mathlib.Omega.{arith}
 use lib.ListN.{length-set}
-use borrow.Author.Rules.{rules}
 use Rattle.tp_lent.proofs.ranges.put_range.Goals as goal
 
 pub bounds-words-at-2 : goal.bounds-words-at-2
