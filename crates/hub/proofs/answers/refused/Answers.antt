@@ -5,4 +5,4 @@ use borrow.Author.Rules.{rules}
 use Rattle.hub.proofs.answers.refused.Goals as goal
 
 pub returns : goal.returns
-returns c = rowed (said c.args.refusal) c.Numbers-of.ensures c.answer_of.ensures
+returns c = rowed (said c.args.refusal) c.numbers_of.ensures c.answer_of.ensures

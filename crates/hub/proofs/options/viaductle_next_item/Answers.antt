@@ -12,28 +12,22 @@ use Rattle.hub.proofs.ToldLaws.{rowed}
 use Rattle.hub.proofs.ItemLaws.{next_behind, item_told, none_told}
 use borrow.Author.Rules.{rules}
 use Rattle.hub.proofs.options.viaductle_next_item.Goals as goal
-use Rattle.hub.proofs.options.viaductle_next_item.Goals.{After-next_item-answer}
-
--- what was found, in the case that an arm has
-found : (c : After-next_item-answer) {here : Count} → c.next_item-answer.result ≡ here
-    → count_said here ≡ given (past c.args.at) (next_item c.args.string.now c.args.at)
-found c same = ap count_said (sym same) ∙ c.next_item-answer.ensures
 
 pub overflow_add-start : goal.overflow_add-start
 overflow_add-start c =
-    let (item, is, behind) = next_behind _ _ _ (found c c.in-Good.is) in
+    let (item, is, behind) = next_behind _ _ _ (ap count_said (sym c.in-Good.is) ∙ c.next_item-answer.ensures) in
     omega arith
 
 pub overflow_sub-next : goal.overflow_sub-next
 overflow_sub-next c =
-    let (item, is, behind) = next_behind _ _ _ (found c c.in-Good.is) in
+    let (item, is, behind) = next_behind _ _ _ (ap count_said (sym c.in-Good.is) ∙ c.next_item-answer.ensures) in
     omega arith
 
 pub returns-in-Good : goal.returns-in-Good
 returns-in-Good c =
     rowed (refusal 0 ((c.args.at + 1) ∷ (c.in-Good.next - (c.args.at + 1)) ∷ [])) c.two.ensures c.answer_of.ensures
-    ∙ item_told _ _ _ (found c c.in-Good.is)
+    ∙ item_told _ _ _ (ap count_said (sym c.in-Good.is) ∙ c.next_item-answer.ensures)
 
 pub returns-in-Refused : goal.returns-in-Refused
 returns-in-Refused c =
-    c.refused.ensures ∙ none_told _ _ _ (found c c.in-Refused.is)
+    c.refused.ensures ∙ none_told _ _ _ (ap count_said (sym c.in-Refused.is) ∙ c.next_item-answer.ensures)
