@@ -136,16 +136,14 @@ fn entry_answer(answer: EntryAnswer) -> Entry
 }
 
 // One entry alone: 1 with 16 below 16 bytes, then 11; later bytes are not read.
-#[unsafe(no_mangle)]
-pub extern "C" fn viaductle_read_entry(entry: &[u8]) -> Entry
+pub fn viaductle_read_entry(entry: &[u8]) -> Entry
     ensures { result ≡ entry_told (read_entry entry.now) }
 {
     entry_answer(read_entry(entry))
 }
 
 // The entry at a place among the entries part's bytes; 20 with no bytes left, otherwise as one entry alone.
-#[unsafe(no_mangle)]
-pub extern "C" fn viaductle_next_entry(entries: &[u8], at: usize) -> Entry
+pub fn viaductle_next_entry(entries: &[u8], at: usize) -> Entry
     ensures { result ≡ entry_told (next_entry entries.now at) }
 {
     let cursor = EntryCursor { at };

@@ -22,16 +22,14 @@ use sd_field::{FieldsAnswer, IpAddress, OptionFirst, SdOption, code_of, read_fie
 use sd_index::{Offset, OptionCursor, Ordinal, RunCursor, look_up, read_index};
 
 // The index alone: 22, 13, then the options from the front; their offsets into the lent table, and how many there are.
-#[unsafe(no_mangle)]
-pub extern "C" fn viaductle_index(options: &[u8], table: &mut [u16], settings: u32) -> Answer
+pub fn viaductle_index(options: &[u8], table: &mut [u16], settings: u32) -> Answer
     ensures { Indexes (settings_of settings) options.now table.old result table.new }
 {
     count_answer(read_index(settings_of(settings), options, table))
 }
 
 // The option of a number by the table: its type, where it starts, and how many bytes it takes; 20, 21.
-#[unsafe(no_mangle)]
-pub extern "C" fn viaductle_lookup(
+pub fn viaductle_lookup(
     options: &[u8],
     table: &[u16],
     count: usize,
@@ -43,8 +41,7 @@ pub extern "C" fn viaductle_lookup(
 }
 
 // The option at a place among the options part's bytes; 20 with no bytes left, otherwise as one option is refused.
-#[unsafe(no_mangle)]
-pub extern "C" fn viaductle_next_option(options: &[u8], at: usize, settings: u32) -> Answer
+pub fn viaductle_next_option(options: &[u8], at: usize, settings: u32) -> Answer
     ensures { result ≡ told (option_values at) (next_option (settings_of settings) options.now at) }
 {
     let cursor = OptionCursor { at: Offset(at) };
@@ -54,8 +51,7 @@ pub extern "C" fn viaductle_next_option(options: &[u8], at: usize, settings: u32
 }
 
 // The option of number `next` where `left` of a run are left: 20 at its end, otherwise as lookup.
-#[unsafe(no_mangle)]
-pub extern "C" fn viaductle_next_of_run(
+pub fn viaductle_next_of_run(
     options: &[u8],
     table: &[u16],
     count: usize,
@@ -74,8 +70,7 @@ pub extern "C" fn viaductle_next_of_run(
 }
 
 // A configuration string alone: 9 with its values.
-#[unsafe(no_mangle)]
-pub extern "C" fn viaductle_string(string: &[u8]) -> Answer
+pub fn viaductle_string(string: &[u8]) -> Answer
     ensures { result ≡ told no_values (verdict (read_string string.now)) }
 {
     verdict_answer(check_string(string))
@@ -83,8 +78,7 @@ pub extern "C" fn viaductle_string(string: &[u8]) -> Answer
 
 // The item at a place of a configuration string: where its bytes start, and how many they are; 20 at the closing zero and with no bytes left,
 // otherwise 9. To go through all: begin at 0, and go on behind the item's bytes.
-#[unsafe(no_mangle)]
-pub extern "C" fn viaductle_next_item(string: &[u8], at: usize) -> Answer
+pub fn viaductle_next_item(string: &[u8], at: usize) -> Answer
     ensures { result ≡ told (item_values at) (next_item string.now at) }
 {
     let answer = next_item(string, at);
@@ -265,8 +259,7 @@ fn fields_of(option: SdOption, size: usize) -> Option
 }
 
 // The option in front of these bytes, what it holds judged, with its fields.
-#[unsafe(no_mangle)]
-pub extern "C" fn viaductle_read_option(option: &[u8], settings: u32) -> Option
+pub fn viaductle_read_option(option: &[u8], settings: u32) -> Option
     ensures { result ≡ read_option_told (settings_of settings) option.now }
 {
     let answer = read_fields(settings_of(settings), option);

@@ -52,16 +52,14 @@ fn payload_answer(answer: PayloadAnswer) -> Answer
 }
 
 // A whole payload, with the offsets of its options in the lent table: 22, then 1 to 6, the options, 10, the entries.
-#[unsafe(no_mangle)]
-pub extern "C" fn viaductle_read(payload: &[u8], table: &mut [u16], settings: u32) -> Answer
+pub fn viaductle_read(payload: &[u8], table: &mut [u16], settings: u32) -> Answer
     ensures { Reads (read_payload (settings_of settings) payload.now) table.old result table.new }
 {
     payload_answer(read_payload(settings_of(settings), payload, table))
 }
 
 // A message with its SD header: 22, then 1 with 16, 14 to 19, and then all later bytes as the payload.
-#[unsafe(no_mangle)]
-pub extern "C" fn viaductle_read_message(message: &[u8], table: &mut [u16], settings: u32) -> Answer
+pub fn viaductle_read_message(message: &[u8], table: &mut [u16], settings: u32) -> Answer
     ensures { Reads (read_message (settings_of settings) message.now) table.old result table.new }
 {
     payload_answer(read_message(settings_of(settings), message, table))
@@ -90,8 +88,7 @@ fn nowhere() -> Places
 }
 
 // The parts of a payload that was read with this answer; they are empty after a refusal, and where the bytes' own sizes are refused.
-#[unsafe(no_mangle)]
-pub extern "C" fn viaductle_parts(payload: &[u8], answer: Answer) -> Places
+pub fn viaductle_parts(payload: &[u8], answer: Answer) -> Places
     ensures { result ≡ places_told answer.number payload.now }
 {
     if answer.number != 0 {

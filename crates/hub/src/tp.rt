@@ -8,8 +8,7 @@ use tp_segment::HEADER_LEN;
 use tp_words::{WORDS, put, stream_of};
 
 // A stream begun in these words: 38 where they are too few, then 36, and the stream of limit 0.
-#[unsafe(no_mangle)]
-pub extern "C" fn viaductle_begin(words: &mut [u32], limit: u32) -> Answer
+pub fn viaductle_begin(words: &mut [u32], limit: u32) -> Answer
     ensures { Begins words.old limit result words.new }
 {
     if words.len() < WORDS {
@@ -23,8 +22,7 @@ pub extern "C" fn viaductle_begin(words: &mut [u32], limit: u32) -> Answer
 }
 
 // One segment comes; a refusal leaves words and buffer as they were.
-#[unsafe(no_mangle)]
-pub extern "C" fn viaductle_consume(words: &mut [u32], segment: &[u8], buffer: &mut [u8]) -> Answer
+pub fn viaductle_consume(words: &mut [u32], segment: &[u8], buffer: &mut [u8]) -> Answer
     ensures { Consumes words.old segment.now buffer.old result words.new buffer.new }
 {
     let answer = tp_lent::consume(words, segment, buffer);
@@ -35,8 +33,7 @@ pub extern "C" fn viaductle_consume(words: &mut [u32], segment: &[u8], buffer: &
 }
 
 // 1 where the stream is complete, else 0.
-#[unsafe(no_mangle)]
-pub extern "C" fn viaductle_complete(words: &[u32]) -> Answer
+pub fn viaductle_complete(words: &[u32]) -> Answer
     ensures { result ≡ completes words.now }
 {
     if tp_lent::complete(words) {
@@ -46,8 +43,7 @@ pub extern "C" fn viaductle_complete(words: &[u32]) -> Answer
 }
 
 // Taking the report: 38, 37, 34, or its length field is written and how long it is.
-#[unsafe(no_mangle)]
-pub extern "C" fn viaductle_take(words: &[u32], buffer: &mut [u8]) -> Answer
+pub fn viaductle_take(words: &[u32], buffer: &mut [u8]) -> Answer
     ensures { Takes words.now buffer.old result buffer.new }
 {
     let answer = tp_lent::take(words, buffer);
@@ -59,24 +55,21 @@ pub extern "C" fn viaductle_take(words: &[u32], buffer: &mut [u8]) -> Answer
 }
 
 // The limit is kept, ranges, end and count are forgotten: 38 where the words are unfit, and they are left alone.
-#[unsafe(no_mangle)]
-pub extern "C" fn viaductle_clear(words: &mut [u32]) -> Answer
+pub fn viaductle_clear(words: &mut [u32]) -> Answer
     ensures { Clears words.old result words.new }
 {
     verdict_answer(tp_lent::clear(words))
 }
 
 // How many segments were accepted since the stream was begun or cleared: 38, or their count.
-#[unsafe(no_mangle)]
-pub extern "C" fn viaductle_count(words: &[u32]) -> Answer
+pub fn viaductle_count(words: &[u32]) -> Answer
     ensures { result ≡ counts words.now }
 {
     count_answer(tp_stream::accepted(stream_of(words)))
 }
 
 // Of the ranges that begin at `from` or behind it the one that begins first: 38, 20, or where it begins and ends, and its number.
-#[unsafe(no_mangle)]
-pub extern "C" fn viaductle_range(words: &[u32], from: u32) -> Answer
+pub fn viaductle_range(words: &[u32], from: u32) -> Answer
     ensures { result ≡ ranges words.now from }
 {
     range_answer(tp_stream::range_from(stream_of(words), from))
