@@ -1,4 +1,4 @@
-//! Links `libhub.a`, which `rt staticlib hub` writes; `VIADUCTLE_LIB` names another folder that has it.
+//! Links `libhub.a`, which `tools/library` makes; `VIADUCTLE_LIB` names another folder that has it.
 
 fn main() {
     println!("cargo:rerun-if-env-changed=VIADUCTLE_LIB");

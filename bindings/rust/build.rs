@@ -1,4 +1,4 @@
-//! Finds `libhub.a`, which `tools/library` makes (by `rt staticlib hub`): in the folder that `VIADUCTLE_LIB` names, as it is, or in the
+//! Finds `libhub.a`, which `tools/library` makes (by `rt lib` of hub_c): in the folder that `VIADUCTLE_LIB` names, as it is, or in the
 //! repository's target/staticlib, where it must not be older than the sources that it is made of.
 
 use std::{
