@@ -1,5 +1,4 @@
 -- `reading::framed_length` meets its contract: each test in the order of the definition. Assumes nothing.
-use borrow.Author.Rules.{rules}
 use Rattle.sd_option.proofs.ReadingLaws.{frame_short, frame_zero, frame_long, frame_good}
 use Rattle.sd_option.proofs.reading.framed_length.Goals as goal
 

@@ -1,7 +1,6 @@
 -- `reading::option_bytes` meets its contract: the bytes after the type, none after a refusal. Assumes nothing.
 use mathlib.Core.Path.{sym, ap}
 use native.Mathlib.Omega.{arith}
-use borrow.Author.Rules.{rules}
 use Rattle.numbers.specs.Answers.{Answer, part, given}
 use Rattle.sd_format.specs.Kinds.{judge_content}
 use Rattle.sd_format.specs.Frames.{Frame}
@@ -13,11 +12,17 @@ use Rattle.sd_option.proofs.reading.option_bytes.Goals as goal
 pub returns-in_default : goal.returns-in_default
 unfolding given
 returns-in_default c =
-    sym (ap (λ (a : Answer Frame). part (given body_of a)) (not_found (judge_content _) _ _ c.read_option-answer.ensures _ c.in_default.is))
+    sym (ap (λ (a : Answer Frame). part (given body_of a)) (not_found (judge_content (settings_said c.args.settings)) _ _ c.read_option-answer.ensures _ c.in_default.is))
 
 pub slice_bounds-result-count-2 : goal.slice_bounds-result-count-2
-slice_bounds-result-count-2 c = let t = (let here : Found (judge_content (settings_said c.args.settings)) c.args.s.now c.in-Good.head = λ = let b. c in found (judge_content _) _ _ b.read_option-answer.ensures _ c.in-Good.is in here) in omega arith
+slice_bounds-result-count-2 c = let t : Found (judge_content (settings_said c.args.settings)) c.args.s.now c.in-Good.head = (found (judge_content (settings_said c.args.settings)) _ _ c.read_option-answer.ensures _ c.in-Good.is) in omega arith
+
+pub slice_bounds-result-start-2 : goal.slice_bounds-result-start-2
+slice_bounds-result-start-2 c = let t : Found (judge_content (settings_said c.args.settings)) c.args.s.now c.in-Good.head = (found (judge_content (settings_said c.args.settings)) _ _ c.read_option-answer.ensures _ c.in-Good.is) in omega arith
+
+pub slice_bounds-result-end-2 : goal.slice_bounds-result-end-2
+slice_bounds-result-end-2 c = let t : Found (judge_content (settings_said c.args.settings)) c.args.s.now c.in-Good.head = (found (judge_content (settings_said c.args.settings)) _ _ c.read_option-answer.ensures _ c.in-Good.is) in omega arith
 
 pub returns : goal.returns
 unfolding given
-returns c = sym (ap (λ (a : Answer Frame). part (given body_of a)) (let here : Found (judge_content (settings_said c.args.settings)) c.args.s.now c.in-Good.head = λ = let b. c in found (judge_content _) _ _ b.read_option-answer.ensures _ c.in-Good.is in here).reads)
+returns c = sym (ap (λ (a : Answer Frame). part (given body_of a)) (found (judge_content (settings_said c.args.settings)) _ _ c.read_option-answer.ensures _ c.in-Good.is).reads)

@@ -1,6 +1,5 @@
 -- `reading::string_of` meets its contract: no bytes where they are not all there, or where it takes none; else those from the fifth on. Assumes
 -- nothing.
-use borrow.Author.Rules.{rules}
 use Rattle.sd_option.proofs.ReadingLaws.{string_cut, string_none, string_there}
 use Rattle.sd_option.proofs.reading.string_of.Goals as goal
 

@@ -1,6 +1,5 @@
 -- `reading::OptionAnswer::refusal` meets its contract: what is left is a refusal. Assumes nothing.
 use mathlib.Core.Path.{sym, ap}
-use borrow.Author.Rules.{rules}
 use Rattle.sd_option.specs.Reading.{option_refusal}
 use Rattle.sd_option.proofs.reading.OptionAnswer.refusal.Goals as goal
 
