@@ -10,7 +10,7 @@ use Rattle.numbers.proofs.AnswerLaws.{accepted_inj, not_refused}
 use Rattle.sd_format.specs.Settings.{Settings}
 use Rattle.sd_format.specs.Options.{Opt}
 use Rattle.sd_format.specs.Kinds.{judge_content}
-use Rattle.sd_format.specs.Frames.{Frame, size, read_option}
+use Rattle.sd_format.specs.Frames.{Frame, read_option}
 use Rattle.sd_format.specs.Layout.{lay_option, wire, OptionFits}
 use Rattle.sd_format.proofs.FrameLaws.{length_frame, option_lay}
 use Rattle.sd_format.proofs.FieldLaws.{wired}

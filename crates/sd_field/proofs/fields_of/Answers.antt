@@ -1,6 +1,5 @@
 -- `sd_field::fields_of` meets its contract: each arm is told which kind it has. Assumes nothing.
 use native.Mathlib.Omega.{arith}
-use borrow.Author.Rules.{rules}
 use Rattle.sd_field.proofs.FieldLaws.{some_body, long_for, as_configuration, as_balancing, as_address, as_unknown}
 use Rattle.sd_field.proofs.fields_of.Goals as goal
 

@@ -1,7 +1,6 @@
 -- `sd_field::option_rest` meets its contract: all bytes after the type but the first. Assumes nothing.
 use mathlib.Core.Path.{ap, ◌∙◌}
 use lib.ListN.{drop}
-use borrow.Author.Rules.{rules}
 use Rattle.numbers.proofs.ByteLaws.{take_rest}
 use Rattle.sd_field.proofs.FieldLaws.{none_behind}
 use Rattle.sd_field.proofs.option_rest.Goals as goal

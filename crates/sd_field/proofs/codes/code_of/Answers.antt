@@ -1,5 +1,4 @@
 -- `sd_field::codes::code_of` meets its contract: by the kind, and where there is an address by its family. Assumes nothing.
-use borrow.Author.Rules.{rules}
 use Rattle.sd_field.proofs.FieldLaws.{address_code}
 use Rattle.sd_field.proofs.codes.code_of.Goals as goal
 

@@ -1,6 +1,5 @@
 -- `sd_field::places::address_at` meets its contract: the words behind the first byte are the address. Assumes nothing.
 use native.Mathlib.Omega.{arith}
-use borrow.Author.Rules.{rules}
 use Rattle.sd_field.proofs.PlaceLaws.{long_v4, long_v6, v4_read, v6_read}
 use Rattle.sd_field.proofs.places.address_at.Goals as goal
 
@@ -21,9 +20,9 @@ number32-requires-in-Ipv6-4 c = omega (arith, long_v6 c.requires c.in-Ipv6.is)
 
 pub returns-in-Ipv4 : goal.returns-in-Ipv4
 returns-in-Ipv4 c =
-    v4_read _ (λ i. (c.shared_slice_known-1.given i).fits) c.requires c.in-Ipv4.is c.number32.ensures
+    v4_read _ (λ i. (c.type_inv.body i).fits) c.requires c.in-Ipv4.is c.number32.ensures
 
 pub returns-in-Ipv6 : goal.returns-in-Ipv6
 returns-in-Ipv6 c =
-    v6_read _ (λ i. (c.shared_slice_known-1.given i).fits) c.requires c.in-Ipv6.is
+    v6_read _ (λ i. (c.type_inv.body i).fits) c.requires c.in-Ipv6.is
     c.number32-in-Ipv6.ensures c.number32-in-Ipv6-2.ensures c.number32-in-Ipv6-3.ensures c.number32-in-Ipv6-4.ensures

@@ -1,5 +1,4 @@
 -- `sd_field::places::number16` meets its contract. Assumes nothing.
-use borrow.Author.Rules.{rules}
 use Rattle.numbers.specs.Bytes.{at16}
 use Rattle.sd_field.proofs.places.number16.Goals as goal
 

@@ -1,5 +1,4 @@
 -- `sd_field::places::number32` meets its contract. Assumes nothing.
-use borrow.Author.Rules.{rules}
 use Rattle.sd_field.proofs.PlaceLaws.{number_32}
 use Rattle.sd_field.proofs.places.number32.Goals as goal
 
