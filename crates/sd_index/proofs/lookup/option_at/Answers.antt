@@ -1,6 +1,5 @@
 -- `lookup::option_at` meets its contract: the bytes from the offset on, or none. Assumes nothing.
 use mathlib.Core.Path.{sym}
-use borrow.Author.Rules.{rules}
 use lib.ListN.{drop_of_length-le}
 use Rattle.numbers.proofs.ByteLaws.{take_rest}
 use Rattle.sd_index.proofs.lookup.option_at.Goals as goal

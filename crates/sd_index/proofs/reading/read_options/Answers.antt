@@ -1,6 +1,5 @@
 -- `reading::read_options` meets its contract: each return is one of the ways that the options and the table can come out. Assumes nothing.
 use native.Mathlib.Omega.{arith}
-use borrow.Author.Rules.{rules}
 use Rattle.sd_index.proofs.IndexLaws.{index_few_slots, index_refused, indexed_long, swept_good, swept_refused}
 use Rattle.sd_index.proofs.reading.read_options.Goals as goal
 

@@ -1,11 +1,10 @@
 -- `reading::sweep` meets its contract. The invariant: the options read so far stand before those that are read later, and their offsets in front of
 -- the table. The measure is what is left of the bytes. Assumes nothing.
-use Prim.Native.Nat.{ℕ, ◌+◌, ◌-◌}
+use Prim.Native.Nat.{ℕ, ◌+◌}
 use mathlib.Core.Path.{◌≡◌, refl, sym, ap, ◌∙◌}
 use mathlib.Core.List.{List}
 use native.Mathlib.Omega.{arith}
-use borrow.Author.Rules.{rules}
-use lib.ListN.{length, drop}
+use lib.ListN.{drop}
 use Rattle.numbers.specs.Refusals.{moved}
 use Rattle.numbers.specs.Answers.{refused, given}
 use Rattle.numbers.proofs.AnswerLaws.{moved_twice}
@@ -14,43 +13,35 @@ use Rattle.sd_format.specs.Kinds.{kind_of, judge_content}
 use Rattle.sd_format.specs.Frames.{one_option}
 use Rattle.refusal.specs.declared.Refusal.{Refusal}
 use Rattle.refusal.specs.Said.{said, verdict_said, verdict_refusal, moved_capped}
+use Rattle.refusal.specs.declared.answers.Verdict as answers
+use Rattle.refusal.specs.declared.answers.Verdict.TheVariants as verdict
+use Rattle.sd_option.specs.declared.reading.OptionHead.{OptionHead}
+use Rattle.sd_option.specs.declared.reading.OptionAnswer.{OptionAnswer}
+use Rattle.sd_option.specs.declared.reading.OptionAnswer.TheVariants as option
 use Rattle.sd_option.specs.Settings.{settings_said}
 use Rattle.sd_option.specs.Reading.{head_of, option_said, option_refusal, behind_type, protocol_verdict, string_verdict}
 use Rattle.sd_option.proofs.ReadingLaws.{Found, found, not_found, refused_before, string_refused, string_passed}
-use Rattle.sd_index.proofs.Turns.{Turn, turn_starts, bad_stays, good_asks, turn_stops, turn_within, turn_goes, turn_refuses, turn_ends}
+use Rattle.sd_index.proofs.Turns.{turn_starts, bad_stays, good_asks, turn_stops, turn_within, turn_goes, turn_refuses, turn_ends}
 use Rattle.sd_index.proofs.reading.sweep.Goals as goal
-use Rattle.sd_index.proofs.reading.sweep.Goals.{After-read_option_unscanned-answer, After-scan-string, At-loop-at, In-Good, In-Passed}
 
--- ---- the option at the place
+-- ---- the option at the place, in `b`, which are the bytes from there on
 
--- the bytes from there on
-abbrev rest : At-loop-at → List ℕ
-rest c = drop c.loop-at.at.0 c.args.options.now
+module _ (g : Settings) (s b : List ℕ) (same : b ≡ s) (a : OptionAnswer) (read : option_said a ≡ given head_of (one_option (protocol_verdict g) b)) where
+  told : option_said a ≡ given head_of (one_option (protocol_verdict g) s)
+  told = read ∙ ap (λ (b : List ℕ). given head_of (one_option (protocol_verdict g) b)) same
 
--- under these settings
-abbrev setting : At-loop-at → Settings
-setting c = settings_said c.args.settings
+  module _ (h : OptionHead) (good : a ≡ option.Good h) where
+    -- but for its string
+    here : Found (protocol_verdict g) s h
+    here = found (protocol_verdict g) _ _ told _ good
 
-told : (c : After-read_option_unscanned-answer)
-    → option_said c.read_option_unscanned-answer.result ≡ given head_of (one_option (protocol_verdict (setting c)) (rest c))
-told c = c.read_option_unscanned-answer.ensures ∙ ap (λ (b : List ℕ). given head_of (one_option (protocol_verdict (setting c)) b)) c.option_at-rest.ensures
+    module _ (v : answers.Verdict) (scanned : verdict_said v ≡ string_verdict (kind_of h.code) (behind_type b h.size)) where
+      string_told : verdict_said v ≡ string_verdict (kind_of h.code) (behind_type s h.size)
+      string_told = scanned ∙ ap (λ (b : List ℕ). string_verdict (kind_of h.code) (behind_type b h.size)) same
 
--- but for its string
-here : (c : In-Good)
-    → Found (protocol_verdict (setting c)) (rest c) c.in-Good.head
-here c = found (protocol_verdict _) _ _ (told c) _ c.in-Good.is
-
-string_told : (c : After-scan-string)
-    → verdict_said c.scan-string.result
-    ≡ string_verdict (kind_of c.in-Good.head.code) (behind_type (rest c) c.in-Good.head.size)
-string_told c =
-    let head = c.in-Good.head in
-    c.scan-string.ensures ∙ ap (λ (b : List ℕ). string_verdict (kind_of head.code) (behind_type b head.size)) c.option_at-rest.ensures
-
--- with its string
-whole : (c : In-Passed)
-    → Found (judge_content (setting c)) (rest c) c.in-Good.head
-whole c =string_passed _ _ _ (here c) _ (string_told c) c.in-Passed.is
+      -- with its string
+      whole : v ≡ verdict.Passed → Found (judge_content g) s h
+      whole passed = string_passed g _ _ here _ string_told passed
 
 pub loop-at-init : goal.loop-at-init
 loop-at-init c = turn_starts _ _ _
@@ -59,47 +50,47 @@ pub returns-in_default : goal.returns-in_default
 returns-in_default c =
     let at : ℕ = c.loop-at.at.0 in
     let r = said c.in_default.field-0 in
-    turn_stops c.loop-at.invariant c.loop-at-test.true r r at (refused_before _ _ _ (not_found (protocol_verdict _) _ _ (told c) _ c.in_default.is)) refl (omega arith)
+    turn_stops c.loop-at.invariant c.loop-at-test.true r r at (refused_before (settings_said c.args.settings) _ _ (not_found (protocol_verdict (settings_said c.args.settings)) _ _ (told (settings_said c.args.settings) (drop c.loop-at.at.0 c.args.options.now) _ c.option_at-rest.ensures _ c.read_option_unscanned-answer.ensures) _ c.in_default.is)) refl (omega arith)
     c.moved.result (c.moved.ensures ∙ ap (λ (x : Refusal). moved_capped at (said x)) (c.refusal.ensures ∙ ap option_refusal c.in_default.is))
 
 pub returns-in_default-string : goal.returns-in_default-string
 returns-in_default-string c =
     let at : ℕ = c.loop-at.at.0 in
     let r = said c.in_default-string.field-0 in
-    turn_stops c.loop-at.invariant c.loop-at-test.true (moved 4 r) r (at + 4) (string_refused _ _ _ (here c) _ (string_told c) _ c.in_default-string.is)
+    turn_stops c.loop-at.invariant c.loop-at-test.true (moved 4 r) r (at + 4) (string_refused (settings_said c.args.settings) _ _ (here (settings_said c.args.settings) (drop c.loop-at.at.0 c.args.options.now) _ c.option_at-rest.ensures _ c.read_option_unscanned-answer.ensures c.in-Good.head c.in-Good.is) _ (string_told (settings_said c.args.settings) (drop c.loop-at.at.0 c.args.options.now) _ c.option_at-rest.ensures _ c.read_option_unscanned-answer.ensures c.in-Good.head c.in-Good.is _ c.scan-string.ensures) _ c.in_default-string.is)
     (sym (moved_twice at 4 r)) (omega arith)
     c.moved-in_default-string.result (c.moved-in_default-string.ensures ∙ ap (λ (x : Refusal). moved_capped (at + 4) (said x)) (c.refusal-in_default-string.ensures ∙ ap verdict_refusal c.in_default-string.is))
 
 pub overflow_add-at-in-loop-at : goal.overflow_add-at-in-loop-at
 overflow_add-at-in-loop-at c =
-    omega (arith, turn_within c.loop-at.invariant c.loop-at-test.true _ (whole c))
+    omega (arith, turn_within c.loop-at.invariant c.loop-at-test.true _ (whole (settings_said c.args.settings) (drop c.loop-at.at.0 c.args.options.now) _ c.option_at-rest.ensures _ c.read_option_unscanned-answer.ensures c.in-Good.head c.in-Good.is _ c.scan-string.ensures c.in-Passed.is))
 
 pub loop-at-smaller-in_default-permission : goal.loop-at-smaller-in_default-permission
-loop-at-smaller-in_default-permission c = let t = whole c in omega arith
+loop-at-smaller-in_default-permission c = let t : Found (judge_content (settings_said c.args.settings)) (drop c.loop-at.at.0 c.args.options.now) c.in-Good.head = whole (settings_said c.args.settings) (drop c.loop-at.at.0 c.args.options.now) _ c.option_at-rest.ensures _ c.read_option_unscanned-answer.ensures c.in-Good.head c.in-Good.is _ c.scan-string.ensures c.in-Passed.is in omega arith
 
 -- an earlier option may not stand
 pub loop-at-preserved-in_default-permission : goal.loop-at-preserved-in_default-permission
 loop-at-preserved-in_default-permission c =
-    turn_goes c.loop-at.invariant c.loop-at-test.true _ (whole c) (omega arith) (omega arith) _ c.write_slot.ensures _
+    turn_goes c.loop-at.invariant c.loop-at-test.true _ (whole (settings_said c.args.settings) (drop c.loop-at.at.0 c.args.options.now) _ c.option_at-rest.ensures _ c.read_option_unscanned-answer.ensures c.in-Good.head c.in-Good.is _ c.scan-string.ensures c.in-Passed.is) (omega arith) (omega arith) _ c.write_slot.ensures _
     (bad_stays _ (ap verdict_said c.in_default-permission.is))
 
 pub loop-at-smaller-in_default-verdict : goal.loop-at-smaller-in_default-verdict
-loop-at-smaller-in_default-verdict c = let t = whole c in omega arith
+loop-at-smaller-in_default-verdict c = let t : Found (judge_content (settings_said c.args.settings)) (drop c.loop-at.at.0 c.args.options.now) c.in-Good.head = whole (settings_said c.args.settings) (drop c.loop-at.at.0 c.args.options.now) _ c.option_at-rest.ensures _ c.read_option_unscanned-answer.ensures c.in-Good.head c.in-Good.is _ c.scan-string.ensures c.in-Passed.is in omega arith
 
 -- all may stand so far, and so may this one
 pub loop-at-preserved-in_default-verdict : goal.loop-at-preserved-in_default-verdict
 loop-at-preserved-in_default-verdict c =
     let still = ap verdict_said c.in-Passed-permission.is in
-    turn_goes c.loop-at.invariant c.loop-at-test.true _ (whole c) (omega arith) (omega arith) _ c.write_slot.ensures _
+    turn_goes c.loop-at.invariant c.loop-at-test.true _ (whole (settings_said c.args.settings) (drop c.loop-at.at.0 c.args.options.now) _ c.option_at-rest.ensures _ c.read_option_unscanned-answer.ensures c.in-Good.head c.in-Good.is _ c.scan-string.ensures c.in-Passed.is) (omega arith) (omega arith) _ c.write_slot.ensures _
     (good_asks still (still ∙ sym (ap verdict_said c.in_default-verdict.is) ∙ c.permission_of-verdict.ensures))
 
 pub loop-at-smaller : goal.loop-at-smaller
-loop-at-smaller c = let t = whole c in omega arith
+loop-at-smaller c = let t : Found (judge_content (settings_said c.args.settings)) (drop c.loop-at.at.0 c.args.options.now) c.in-Good.head = whole (settings_said c.args.settings) (drop c.loop-at.at.0 c.args.options.now) _ c.option_at-rest.ensures _ c.read_option_unscanned-answer.ensures c.in-Good.head c.in-Good.is _ c.scan-string.ensures c.in-Passed.is in omega arith
 
 -- all may stand so far, and this one may not
 pub loop-at-preserved : goal.loop-at-preserved
 loop-at-preserved c =
-    turn_goes c.loop-at.invariant c.loop-at-test.true _ (whole c) (omega arith) (omega arith) _ c.write_slot.ensures _
+    turn_goes c.loop-at.invariant c.loop-at-test.true _ (whole (settings_said c.args.settings) (drop c.loop-at.at.0 c.args.options.now) _ c.option_at-rest.ensures _ c.read_option_unscanned-answer.ensures c.in-Good.head c.in-Good.is _ c.scan-string.ensures c.in-Passed.is) (omega arith) (omega arith) _ c.write_slot.ensures _
     (good_asks (ap verdict_said c.in-Passed-permission.is) c.permission_of-verdict.ensures)
 
 pub returns-in_default-permission-2 : goal.returns-in_default-permission-2

@@ -1,5 +1,4 @@
 -- `slots::clear_slots` meets its contract. The invariant: zeros stand up to slot `i`, and nothing else has changed. Assumes nothing.
-use Prim.Native.Nat.{◌-◌, ◌≤◌}
 use mathlib.Core.Path.{◌≡◌, sym, ap, ◌∙◌}
 use mathlib.Core.List.{List}
 use native.Mathlib.Omega.{arith}

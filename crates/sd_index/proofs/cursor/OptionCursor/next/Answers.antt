@@ -1,25 +1,13 @@
 -- `cursor::OptionCursor::next` meets its contract: it stops at the end, and within the bytes it goes by the reading of one option.
 -- Assumes nothing.
-use mathlib.Core.Path.{◌≡◌, refl, sym, ap, ◌∙◌}
+use mathlib.Core.Path.{refl, sym, ap, ◌∙◌}
 use native.Mathlib.Omega.{arith}
-use borrow.Author.Rules.{rules}
-use Rattle.numbers.specs.Answers.{given}
 use Rattle.sd_format.specs.Sequences.{stands}
-use Rattle.sd_format.specs.Frames.{next_option}
 use Rattle.sd_option.specs.declared.reading.OptionAnswer.{OptionAnswer}
 use Rattle.sd_option.specs.Settings.{settings_said}
-use Rattle.sd_option.specs.Reading.{head_of, option_said}
+use Rattle.sd_option.specs.Reading.{option_said}
 use Rattle.sd_index.proofs.StepLaws.{behind_head, next_ended, next_told, option_stepped, step_fits}
 use Rattle.sd_index.proofs.cursor.OptionCursor.next.Goals as goal
-use Rattle.sd_index.proofs.cursor.OptionCursor.next.Goals.{After-read_option-answer}
-
--- what the reading answered is the cursor's answer
-told : (c : After-read_option-answer)
-    → option_said c.read_option-answer.result
-    ≡ given head_of (next_option (settings_said c.args.settings) c.args.options.now c.args.self.at.0)
-told c =
-    let args = c.args in
-    next_told (settings_said args.settings) args.options.now args.self.at.0 _ c.option_at.ensures c.if-options-at.false c.read_option-answer.result c.read_option-answer.ensures
 
 pub returns-then-options-at : goal.returns-then-options-at
 returns-then-options-at c =
@@ -28,7 +16,7 @@ returns-then-options-at c =
 pub returns-in_default : goal.returns-in_default
 returns-in_default c =
     let at = c.args.self.at.0 in
-    option_stepped _ _ _ _ (told c) (sym (ap (λ (x : OptionAnswer). stands behind_head (option_said x) at) c.in_default.is))
+    option_stepped _ _ _ _ (next_told (settings_said c.args.settings) c.args.options.now c.args.self.at.0 _ c.option_at.ensures c.if-options-at.false c.read_option-answer.result c.read_option-answer.ensures) (sym (ap (λ (x : OptionAnswer). stands behind_head (option_said x) at) c.in_default.is))
 
 pub overflow_add-result : goal.overflow_add-result
 overflow_add-result c =
@@ -37,4 +25,4 @@ overflow_add-result c =
 
 pub returns : goal.returns
 returns c =
-    option_stepped _ _ _ _ (sym (ap option_said c.in-Good.is) ∙ told c) refl
+    option_stepped _ _ _ _ (sym (ap option_said c.in-Good.is) ∙ (next_told (settings_said c.args.settings) c.args.options.now c.args.self.at.0 _ c.option_at.ensures c.if-options-at.false c.read_option-answer.result c.read_option-answer.ensures)) refl
