@@ -1,7 +1,7 @@
 -- The flags by the names that the code has for them, at the bits that the rules give them in byte 0, and the statements that a payload's
 -- flags lie there and that every byte's three high bits come back. Written beside `flags_laid` and not by it: names that are swapped in
 -- `flags_laid` and in the code together are refused here. proofs/FlagsByName.antt proves them. Assumes nothing: these are definitions.
-use Rattle.std.specs.Prelude.{ℕ, ◌+◌, ◌*◌, ◌/◌, ◌<◌, ◌≡◌, cond, List, ◌∷◌}
+use Rattle.std.specs.Prelude.{ℕ, ◌+◌, ◌*◌, ◌/◌, ◌<◌, ◌≡◌, cond, ◌∷◌}
 use Rattle.numbers.specs.Bytes.{be24}
 use Rattle.sd_format.specs.Layout.{Flags, lay_opening}
 use Rattle.sd_format.specs.Payload.{flags}

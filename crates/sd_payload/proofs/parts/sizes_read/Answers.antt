@@ -1,6 +1,5 @@
 -- `parts::sizes_read` meets its contract: each arm is told which answer it has. Assumes nothing.
 use mathlib.Core.Path.{refl, sym, ap, ◌∙◌}
-use borrow.Author.Rules.{rules}
 use Rattle.sd_payload.specs.declared.reading.PayloadAnswer.{PayloadAnswer}
 use Rattle.sd_payload.specs.Parts.{settled}
 use Rattle.sd_payload.proofs.parts.sizes_read.Goals as goal

@@ -1,7 +1,6 @@
 -- `reading::read_message` meets its contract: too few slots, a refused header, or the payload behind it. Assumes nothing.
 use mathlib.Core.Path.{◌≡◌, sym, ap, ◌∙◌, subst}
 use native.Mathlib.Omega.{arith}
-use borrow.Author.Rules.{rules}
 use Rattle.numbers.specs.Answers.{Answer, refused, pass}
 use Rattle.numbers.proofs.ByteLaws.{take_rest}
 use Rattle.sd_format.specs.Payload.{Reading, read_payload, header}
@@ -25,8 +24,11 @@ returns-in_default c =
 pub slice_bounds-read_payload-count : goal.slice_bounds-read_payload-count
 slice_bounds-read_payload-count c = omega (arith, header_long _ (let passed : header c.args.message.now ≡ pass = sym c.judge_header-verdict.ensures ∙ ap verdict_said c.in-Passed.is in passed))
 
+pub slice_bounds-read_payload-start : goal.slice_bounds-read_payload-start
+slice_bounds-read_payload-start c = omega (arith, header_long _ (let passed : header c.args.message.now ≡ pass = sym c.judge_header-verdict.ensures ∙ ap verdict_said c.in-Passed.is in passed))
+
 pub returns : goal.returns
 returns c =
-    subst (λ (x : Answer Reading). PayloadRead x c.args.table.now c.read_payload.new.1.1.0 c.read_payload.result)
+    subst (λ (x : Answer Reading). PayloadRead x c.args.table.now c.read_payload.new.table c.read_payload.result)
     (ap (read_payload (settings_said c.args.settings)) (take_rest c.args.message.now 16) ∙ sym (header_passes (settings_said c.args.settings) c.args.message.now (let passed : header c.args.message.now ≡ pass = sym c.judge_header-verdict.ensures ∙ ap verdict_said c.in-Passed.is in passed)))
     c.read_payload.ensures

@@ -1,18 +1,18 @@
 -- `sizes::judge_sizes` meets its contract: each return is told by the tests that led there. Assumes nothing.
-use Prim.Native.Nat.{ℕ, ◌+◌}
+use Prim.Native.Nat.{ℕ, ◌+◌, ◌*◌, ◌%◌, ◌≤◌}
 use mathlib.Core.Path.{◌≡◌, refl, sym, ap, ◌∙◌}
 use mathlib.Core.Bool.{not}
 use mathlib.Core.List.{List}
-use borrow.Author.Rules.{rules}
 use borrow.Author.Tests.{lt-ltb, le-ltb, eq-eqb, ne_eqb}
-use lib.ListN.{length}
+use lib.ListN.{length, get_or}
 use Rattle.numbers.specs.Answers.{Answer, accepted, refused, Verdict, ◌>>◌}
 use Rattle.numbers.specs.Bytes.{at32}
 use Rattle.numbers.proofs.AnswerLaws.{when_hit, when_pass}
 use Rattle.sd_format.specs.Payload.{sizes, entries_length, options_length}
 use Rattle.refusal.specs.declared.Refusal.{Refusal}
+use Rattle.refusal.specs.declared.answers.Verdict as code
 use Rattle.refusal.specs.Said.{said, verdict_said, verdict_refusal}
-use Rattle.sd_payload.specs.Sized.{sized}
+use Rattle.sd_payload.specs.Sized.{sized, whole}
 use Rattle.sd_payload.proofs.SizeLaws.{word_at, sized_by, sizes_whole}
 use Rattle.sd_payload.proofs.sizes.judge_sizes.Goals as goal
 
@@ -20,40 +20,66 @@ pub returns-then-had-lt-MIN_PAYLOAD_LEN : goal.returns-then-had-lt-MIN_PAYLOAD_L
 unfolding sized sizes ◌>>◌
 returns-then-had-lt-MIN_PAYLOAD_LEN c = sym (ap (λ (v : Verdict). v >> accepted (entries_length c.args.payload.now)) (when_hit _ _ _ (lt-ltb _ _ c.if-had-lt-MIN_PAYLOAD_LEN.true)))
 
+-- ---- by the entries length
+
+-- four bytes as one number
+abbrev word : List ℕ → ℕ → ℕ
+word s i = (get_or s i 0 * 256 + get_or s (i + 1) 0) * 65536 + (get_or s (i + 2) 0 * 256 + get_or s (i + 3) 0)
+
+module _ (s : List ℕ) (el : ℕ) (read : el ≡ word s 4) where
+  entries_is : el ≡ entries_length s
+  unfolding entries_length
+  entries_is = read ∙ word_at s 4
+
+  by_entries : {a : Answer ℕ} → (sizes (length s) el (options_length s) >> accepted el) ≡ a → a ≡ sized s
+  by_entries e = sym (sized_by s el (options_length s) entries_is refl ∙ e)
+
+  -- ---- and by the options length
+
+  module _ (ol : ℕ) (then : ol ≡ word s (8 + el)) where
+    options_is : ol ≡ options_length s
+    unfolding options_length
+    options_is = then ∙ word_at s (8 + el) ∙ ap (λ (n : ℕ). at32 s (8 + n)) entries_is
+
+    by_options : {a : Answer ℕ} → (sizes (length s) el ol >> accepted el) ≡ a → a ≡ sized s
+    by_options e = sym (sized_by s el ol entries_is options_is ∙ e)
+
+-- what the last three tests say
+judged : (n el ol : ℕ) → 12 ≤ n → el ≤ 1388 → el % 16 ≡ 0 → 12 + el ≤ n → ol ≤ 1388 → (v : code.Verdict) → verdict_said v ≡ whole n el ol
+    → sizes n el ol ≡ verdict_said v
+judged n el ol twelve short even there few v said = sizes_whole n el ol twelve short even there few ∙ sym said
+
 pub returns-then-entries-gt-MAX_ENTRIES_LEN : goal.returns-then-entries-gt-MAX_ENTRIES_LEN
-unfolding sizes ◌>>◌ entries_length
+unfolding sizes ◌>>◌
 returns-then-entries-gt-MAX_ENTRIES_LEN c =
-    (let by_entries : {a : Answer ℕ} → (sizes (length c.args.payload.now) c.be32-entries.result (options_length c.args.payload.now) >> accepted c.be32-entries.result) ≡ a → a ≡ sized c.args.payload.now = λ e. sym (sized_by c.args.payload.now c.be32-entries.result (options_length c.args.payload.now) (let entries_is : c.be32-entries.result ≡ entries_length c.args.payload.now = c.be32-entries.ensures ∙ word_at c.args.payload.now 4 in entries_is) refl ∙ e) in by_entries) (ap (λ (v : Verdict). v >> accepted c.be32-entries.result) (when_pass _ _ _ (le-ltb _ _ c.if-had-lt-MIN_PAYLOAD_LEN.false) ∙ when_hit _ _ _ (lt-ltb _ _ c.if-entries-gt-MAX_ENTRIES_LEN.true)))
+    by_entries c.args.payload.now _ c.be32-entries.ensures (ap (λ (v : Verdict). v >> accepted c.be32-entries.result)
+    (when_pass _ _ _ (le-ltb _ _ c.if-had-lt-MIN_PAYLOAD_LEN.false) ∙ when_hit _ _ _ (lt-ltb _ _ c.if-entries-gt-MAX_ENTRIES_LEN.true)))
 
 pub returns-then-entries_len-ne0 : goal.returns-then-entries_len-ne0
-unfolding sizes ◌>>◌ entries_length
+unfolding sizes ◌>>◌
 returns-then-entries_len-ne0 c =
-    (let by_entries : {a : Answer ℕ} → (sizes (length c.args.payload.now) c.be32-entries.result (options_length c.args.payload.now) >> accepted c.be32-entries.result) ≡ a → a ≡ sized c.args.payload.now = λ e. sym (sized_by c.args.payload.now c.be32-entries.result (options_length c.args.payload.now) (let entries_is : c.be32-entries.result ≡ entries_length c.args.payload.now = c.be32-entries.ensures ∙ word_at c.args.payload.now 4 in entries_is) refl ∙ e) in by_entries) (ap (λ (v : Verdict). v >> accepted c.be32-entries.result)
+    by_entries c.args.payload.now _ c.be32-entries.ensures (ap (λ (v : Verdict). v >> accepted c.be32-entries.result)
     (when_pass _ _ _ (le-ltb _ _ c.if-had-lt-MIN_PAYLOAD_LEN.false) ∙ when_pass _ _ _ (le-ltb _ _ c.if-entries-gt-MAX_ENTRIES_LEN.false) ∙ when_hit _ _ _ (ap not (ne_eqb _ _ c.if-entries_len-ne0.true))))
 
 pub returns-then-had-from : goal.returns-then-had-from
-unfolding sizes ◌>>◌ entries_length
+unfolding sizes ◌>>◌
 returns-then-had-from c =
-    (let by_entries : {a : Answer ℕ} → (sizes (length c.args.payload.now) c.be32-entries.result (options_length c.args.payload.now) >> accepted c.be32-entries.result) ≡ a → a ≡ sized c.args.payload.now = λ e. sym (sized_by c.args.payload.now c.be32-entries.result (options_length c.args.payload.now) (let entries_is : c.be32-entries.result ≡ entries_length c.args.payload.now = c.be32-entries.ensures ∙ word_at c.args.payload.now 4 in entries_is) refl ∙ e) in by_entries) (ap (λ (v : Verdict). v >> accepted c.be32-entries.result)
-    (when_pass _ _ _ (le-ltb _ _ c.if-had-lt-MIN_PAYLOAD_LEN.false) ∙ when_pass _ _ _ (le-ltb _ _ c.if-entries-gt-MAX_ENTRIES_LEN.false) ∙ when_pass _ _ _ (ap not (eq-eqb _ _ c.if-entries_len-ne0.false))
-    ∙ when_hit _ _ _ (lt-ltb _ _ c.if-had-from.true)))
+    by_entries c.args.payload.now _ c.be32-entries.ensures (ap (λ (v : Verdict). v >> accepted c.be32-entries.result)
+    (when_pass _ _ _ (le-ltb _ _ c.if-had-lt-MIN_PAYLOAD_LEN.false) ∙ when_pass _ _ _ (le-ltb _ _ c.if-entries-gt-MAX_ENTRIES_LEN.false) ∙ when_pass _ _ _ (ap not (eq-eqb _ _ c.if-entries_len-ne0.false)) ∙ when_hit _ _ _ (lt-ltb _ _ c.if-had-from.true)))
 
 pub returns-then-options-gt-MAX_OPTIONS_LEN : goal.returns-then-options-gt-MAX_OPTIONS_LEN
-unfolding sizes ◌>>◌ entries_length options_length
+unfolding sizes ◌>>◌
 returns-then-options-gt-MAX_OPTIONS_LEN c =
-    (let by_options : {a : Answer ℕ} → (sizes (length (c.args.payload.now c)) (c.be32-entries.result c) c.be32-options.result >> accepted (c.be32-entries.result c)) ≡ a → a ≡ sized (c.args.payload.now c) = λ e. sym (sized_by (c.args.payload.now c) (c.be32-entries.result c) c.be32-options.result ((let entries_is : c.be32-entries.result ≡ entries_length c.args.payload.now = c.be32-entries.ensures ∙ word_at c.args.payload.now 4 in entries_is) c) (let options_is : c.be32-options.result ≡ options_length (c.args.payload.now c) = c.be32-options.ensures ∙ word_at (c.args.payload.now c) (8 + c.be32-entries.result c) ∙ ap (λ (n : ℕ). at32 (c.args.payload.now c) (8 + n)) ((let entries_is : c.be32-entries.result ≡ entries_length c.args.payload.now = c.be32-entries.ensures ∙ word_at c.args.payload.now 4 in entries_is) c) in options_is) ∙ e) in by_options) (ap (λ (v : Verdict). v >> accepted c.be32-entries.result)
-    (when_pass _ _ _ (le-ltb _ _ c.if-had-lt-MIN_PAYLOAD_LEN.left) ∙ when_pass _ _ _ (le-ltb _ _ c.if-entries-gt-MAX_ENTRIES_LEN.false) ∙ when_pass _ _ _ (ap not (eq-eqb _ _ c.if-entries_len-ne0.false))
-    ∙ when_pass _ _ _ (le-ltb _ _ c.if-had-from.false) ∙ when_hit _ _ _ (lt-ltb _ _ c.if-options-gt-MAX_OPTIONS_LEN.true)))
+    by_options c.args.payload.now _ c.be32-entries.ensures _ c.be32-options.ensures (ap (λ (v : Verdict). v >> accepted c.be32-entries.result)
+    (when_pass _ _ _ (le-ltb _ _ c.if-had-lt-MIN_PAYLOAD_LEN.false) ∙ when_pass _ _ _ (le-ltb _ _ c.if-entries-gt-MAX_ENTRIES_LEN.false) ∙ when_pass _ _ _ (ap not (eq-eqb _ _ c.if-entries_len-ne0.false)) ∙ when_pass _ _ _ (le-ltb _ _ c.if-had-from.false) ∙ when_hit _ _ _ (lt-ltb _ _ c.if-options-gt-MAX_OPTIONS_LEN.true)))
 
 pub returns-in_default : goal.returns-in_default
-unfolding ◌>>◌ entries_length options_length
+unfolding ◌>>◌
 returns-in_default c =
     ap (λ (r : Refusal). refused (said r)) (c.refusal.ensures ∙ ap verdict_refusal c.in_default.is)
-    ∙ (let by_options : {a : Answer ℕ} → (sizes (length (c.args.payload.now c)) (c.be32-entries.result c) c.be32-options.result >> accepted (c.be32-entries.result c)) ≡ a → a ≡ sized (c.args.payload.now c) = λ e. sym (sized_by (c.args.payload.now c) (c.be32-entries.result c) c.be32-options.result ((let entries_is : c.be32-entries.result ≡ entries_length c.args.payload.now = c.be32-entries.ensures ∙ word_at c.args.payload.now 4 in entries_is) c) (let options_is : c.be32-options.result ≡ options_length (c.args.payload.now c) = c.be32-options.ensures ∙ word_at (c.args.payload.now c) (8 + c.be32-entries.result c) ∙ ap (λ (n : ℕ). at32 (c.args.payload.now c) (8 + n)) ((let entries_is : c.be32-entries.result ≡ entries_length c.args.payload.now = c.be32-entries.ensures ∙ word_at c.args.payload.now 4 in entries_is) c) in options_is) ∙ e) in by_options) (ap (λ (v : Verdict). v >> accepted (el c)) ((let judged : sizes (length (c.args.payload.now (c c))) (c.be32-entries.result (c c)) c.be32-options.result ≡ verdict_said c.judge_whole-verdict.result = λ =
-    let o. c in let r = c o in sizes_whole _ _ _ (c r).if1.left (c o).before.before.if2.false (c o).before.if3.false (c o).if4.false c.if-options-gt-MAX_OPTIONS_LEN.false ∙ sym c.judge_whole-verdict.ensures in judged) ∙ ap verdict_said c.in_default.is))
+    ∙ by_options c.args.payload.now _ c.be32-entries.ensures _ c.be32-options.ensures (ap (λ (v : Verdict). v >> accepted c.be32-entries.result) (judged _ _ _ c.if-had-lt-MIN_PAYLOAD_LEN.false c.if-entries-gt-MAX_ENTRIES_LEN.false c.if-entries_len-ne0.false c.if-had-from.false c.if-options-gt-MAX_OPTIONS_LEN.false _ c.judge_whole-verdict.ensures ∙ ap verdict_said c.in_default.is))
 
 pub returns : goal.returns
-unfolding ◌>>◌ entries_length options_length
+unfolding ◌>>◌
 returns c =
-    (let by_options : {a : Answer ℕ} → (sizes (length (c.args.payload.now c)) (c.be32-entries.result c) c.be32-options.result >> accepted (c.be32-entries.result c)) ≡ a → a ≡ sized (c.args.payload.now c) = λ e. sym (sized_by (c.args.payload.now c) (c.be32-entries.result c) c.be32-options.result ((let entries_is : c.be32-entries.result ≡ entries_length c.args.payload.now = c.be32-entries.ensures ∙ word_at c.args.payload.now 4 in entries_is) c) (let options_is : c.be32-options.result ≡ options_length (c.args.payload.now c) = c.be32-options.ensures ∙ word_at (c.args.payload.now c) (8 + c.be32-entries.result c) ∙ ap (λ (n : ℕ). at32 (c.args.payload.now c) (8 + n)) ((let entries_is : c.be32-entries.result ≡ entries_length c.args.payload.now = c.be32-entries.ensures ∙ word_at c.args.payload.now 4 in entries_is) c) in options_is) ∙ e) in by_options) (ap (λ (v : Verdict). v >> accepted (el c)) ((let judged : sizes (length (c.args.payload.now (c c))) (c.be32-entries.result (c c)) c.be32-options.result ≡ verdict_said c.judge_whole-verdict.result = λ =
-    let o. c in let r = c o in sizes_whole _ _ _ (c r).if1.left (c o).before.before.if2.false (c o).before.if3.false (c o).if4.false c.if-options-gt-MAX_OPTIONS_LEN.false ∙ sym c.judge_whole-verdict.ensures in judged) ∙ ap verdict_said c.in-Passed.is))
+    by_options c.args.payload.now _ c.be32-entries.ensures _ c.be32-options.ensures (ap (λ (v : Verdict). v >> accepted c.be32-entries.result) (judged _ _ _ c.if-had-lt-MIN_PAYLOAD_LEN.false c.if-entries-gt-MAX_ENTRIES_LEN.false c.if-entries_len-ne0.false c.if-had-from.false c.if-options-gt-MAX_OPTIONS_LEN.false _ c.judge_whole-verdict.ensures ∙ ap verdict_said c.in-Passed.is))

@@ -1,7 +1,6 @@
 -- `sizes::judge_whole` meets its contract: each return is told by the tests that led there. Assumes nothing.
 use mathlib.Core.Path.{sym, ap, ◌∙◌}
 use mathlib.Core.Bool.{not}
-use borrow.Author.Rules.{rules}
 use borrow.Author.Tests.{lt-ltb, le-ltb, eq-eqb, ne_eqb}
 use Rattle.numbers.proofs.AnswerLaws.{when_hit, when_pass}
 use Rattle.sd_payload.specs.Sized.{whole}
