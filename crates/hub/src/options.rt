@@ -29,12 +29,7 @@ pub fn viaductle_index(options: &[u8], table: &mut [u16], settings: u32) -> Answ
 }
 
 // The option of a number by the table: its type, where it starts, and how many bytes it takes; 20, 21.
-pub fn viaductle_lookup(
-    options: &[u8],
-    table: &[u16],
-    count: usize,
-    ordinal: usize,
-) -> Answer
+pub fn viaductle_lookup(options: &[u8], table: &[u16], count: usize, ordinal: usize) -> Answer
     ensures { result ≡ told (option_values (get_or table.now ordinal 0)) (look_up options.now table.now count ordinal) }
 {
     found_answer(look_up(options, table, count, Ordinal(ordinal)))

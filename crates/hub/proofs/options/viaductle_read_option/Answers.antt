@@ -12,30 +12,23 @@ use Rattle.hub.specs.Options.{no_option, option_told, read_option_told}
 use Rattle.hub.proofs.FieldLaws.{four_bytes}
 use borrow.Author.Rules.{rules}
 use Rattle.hub.proofs.options.viaductle_read_option.Goals as goal
-use Rattle.hub.proofs.options.viaductle_read_option.Goals.{After-read_fields-answer}
-
--- the settings that the word told
-abbrev setting : After-read_fields-answer → Settings
-setting c = settings_of c.args.settings
 
 -- what was read, in the case that an arm has
-told_by : (c : After-read_fields-answer) {here : FieldsAnswer} → c.read_fields-answer.result ≡ here
-    → fields_said (rest_of (setting c) c.args.option.now) here ≡ given decoded (read_option (setting c) c.args.option.now)
-told_by c {here} same =
-    let s : List ℕ = c.args.option.now in
-    subst (λ (g : Settings). fields_said (rest_of g s) here ≡ given decoded (read_option g s)) c.settings_of.ensures
-    (ap (fields_said (rest_of _ s)) (sym same) ∙ c.read_fields-answer.ensures)
+told_by : (g h : Settings) (s : List ℕ) (answer here : FieldsAnswer) → g ≡ h → fields_said (rest_of g s) answer ≡ given decoded (read_option g s) → answer ≡ here
+    → fields_said (rest_of h s) here ≡ given decoded (read_option h s)
+told_by g h s answer here same read is =
+    subst (λ (k : Settings). fields_said (rest_of k s) here ≡ given decoded (read_option k s)) same (ap (fields_said (rest_of g s)) (sym is) ∙ read)
 
 pub fields_of-requires : goal.fields_of-requires
 fields_of-requires c =
-    four_bytes (setting c) c.args.option.now _ (told_by c c.in-Good.is)
+    four_bytes (settings_of c.args.settings) c.args.option.now _ (told_by _ (settings_of c.args.settings) c.args.option.now _ _ c.settings_of.ensures c.read_fields-answer.ensures c.in-Good.is)
 
 pub returns-in-Good : goal.returns-in-Good
 unfolding read_option_told
 returns-in-Good c =
-    c.fields_of.ensures (rest_of (setting c) c.args.option.now) ∙ ap option_told (told_by c c.in-Good.is)
+    c.fields_of.ensures (rest_of (settings_of c.args.settings) c.args.option.now) ∙ ap option_told (told_by _ (settings_of c.args.settings) c.args.option.now _ _ c.settings_of.ensures c.read_fields-answer.ensures c.in-Good.is)
 
 pub returns-in-Refused : goal.returns-in-Refused
 unfolding read_option_told
 returns-in-Refused c =
-    c.no_option.ensures ∙ ap no_option c.refused.ensures ∙ ap option_told (told_by c c.in-Refused.is)
+    c.no_option.ensures ∙ ap no_option c.refused.ensures ∙ ap option_told (told_by _ (settings_of c.args.settings) c.args.option.now _ _ c.settings_of.ensures c.read_fields-answer.ensures c.in-Refused.is)
