@@ -242,10 +242,11 @@ fn ffi() -> String {
 
 #[test]
 fn declared_as_in_the_source() {
-    let Some(source) = repository("crates/hub/src") else {
+    // hub has the structs, and hub_c exports the functions that take and give them
+    let (Some(structs), Some(exports)) = (repository("crates/hub/src"), repository("crates/hub_c/src")) else {
         return;
     };
-    let exported = functions(&source, "pub extern \"C\" fn ");
+    let exported = functions(&(structs + &exports), "pub extern \"C\" fn ");
     assert_eq!(exported.len(), 19, "{exported:#?}");
     assert_eq!(functions(&ffi(), "pub fn "), exported);
 }
