@@ -5,7 +5,7 @@ use Prim.Native.Nat.{ℕ, ◌*◌, ◌≤◌}
 use mathlib.Core.Path.{◌≡◌, ◌∙◌}
 use mathlib.Core.List.{List}
 use lib.ListN.{length, drop, get_or}
-use Rattle.numbers.specs.Answers.{accepted, given, verdict}
+use Rattle.numbers.specs.Answers.{accepted, verdict}
 use Rattle.numbers.specs.Bytes.{Bytes}
 use Rattle.sd_format.specs.Sequences.{counted}
 use Rattle.sd_format.specs.Options.{Opt}
@@ -17,7 +17,7 @@ use Rattle.sd_format.specs.Entries.{Entry, read_entry, next_entry}
 use Rattle.sd_format.specs.Layout.{lay_option, lay_entries, lay_options, Payload}
 use Rattle.config_string.specs.Items.{next_item}
 use Rattle.sd_index.specs.Steps.{run_of}
-use Rattle.hub.specs.Answers.{row, told, no_values, option_values, item_values}
+use Rattle.hub.specs.Answers.{told, no_values, option_values, item_values}
 use Rattle.hub.specs.Entries.{entry_told}
 use Rattle.hub.specs.Settings.{settings_of}
 use Rattle.hub.specs.Options.{option_fields, read_option_told}

@@ -8,7 +8,6 @@ use Rattle.numbers.specs.Answers.{accepted, refused, given}
 use Rattle.numbers.specs.Refusals.{Refusal}
 use Rattle.numbers.proofs.AnswerLaws.{given_accepted, given_refused}
 use Rattle.config_string.specs.Items.{next_item, past}
-use Rattle.hub.specs.declared.answers.Answer.{Answer}
 use Rattle.hub.specs.Answers.{row, refusal_row, told, item_values}
 
 module _ (s : List ℕ) (at : ℕ) where

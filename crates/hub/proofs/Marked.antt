@@ -1,12 +1,11 @@
 -- The rules' marked cases hold of the definitions. Assumes nothing.
-use mathlib.Core.Path.{◌≡◌}
 use mathlib.Core.List.{List, [], ◌∷◌, ◌++◌, map}
 use Rattle.numbers.specs.Answers.{All}
 use Rattle.sd_format.specs.Cases as discovery
 use Rattle.sd_format.proofs.Cases as discovered
 use Rattle.tp_machine.specs.Cases as joining
 use Rattle.tp_machine.proofs.Cases as run
-use Rattle.hub.specs.Marked.{Marked, read, joined, Holds, MarkedCases}
+use Rattle.hub.specs.Marked.{read, joined, Holds, MarkedCases}
 
 streams : (cs : List joining.Case) → joining.Hold cs → All Holds (map joined cs)
 streams [] h = tt

@@ -1,10 +1,10 @@
 -- Demand 3 of what C calls, from the promises of the exported functions and from demand 3 of the definitions. Assumes nothing.
 use Prim.Native.Nat.{ℕ, zero, suc, ◌+◌, ◌*◌, ◌-◌, ◌/◌, ◌%◌, ◌≤◌, ◌<◌}
 use mathlib.Core.Path.{◌≡◌, refl, sym, ap, ◌∙◌, subst}
-use mathlib.Core.Logic.{◌⊎◌, inl, inr, ◌↔◌}
+use mathlib.Core.Logic.{◌⊎◌, inl, inr}
 use mathlib.Core.Bool.{Bool, true, false, cond}
 use mathlib.Core.List.{List, [], ◌∷◌, ◌++◌, map}
-use native.Mathlib.Nat.{mul-suc, zero-mul, one-mul, add-zero, zero-add, add_assoc, min-le_left}
+use native.Mathlib.Nat.{mul-suc, add-zero, zero-add, add_assoc, min-le_left}
 use native.Mathlib.Omega.{arith}
 use lib.ListN.{length, take, drop, get_or, length-append, length-drop, length-take, length-map}
 use lib.Seq.{length-take-le, take_all}
@@ -20,20 +20,20 @@ use Rattle.numbers.proofs.ByteLaws.{bytes_drop}
 use Rattle.sd_format.specs.Sequences.{counted, starts}
 use Rattle.sd_format.specs.Options.{Opt}
 use Rattle.sd_format.specs.Kinds.{judge_content}
-use Rattle.sd_format.specs.Frames.{Frame, size, slots, read_option, lent, read_index, look_up, next_option, next_of_run}
+use Rattle.sd_format.specs.Frames.{Frame, size, slots, read_option, lent, read_index, look_up, next_of_run}
 use Rattle.sd_format.specs.Entries.{Entry, read_entry, next_entry}
 use Rattle.sd_format.specs.Fields.{fields}
 use Rattle.sd_format.specs.Layout.{lay_all, lay_entry, lay_option, lay_entries, lay_options, EntryFits, OptionFits, wire, Payload, lay_opening, lay_parts}
 use Rattle.sd_format.specs.Payload.{entries_length, entries_part, options_part, Reading, flags, read_payload, shown, handed_out, read_message}
 use Rattle.sd_format.specs.Demand3.{LaidOut, table_left, NoStricter, undecided, IndexLaidOut}
-use Rattle.sd_format.proofs.FrameLaws.{lay_frame, length_frame, option_lay}
+use Rattle.sd_format.proofs.FrameLaws.{length_frame, option_lay}
 use Rattle.sd_format.proofs.FieldLaws.{wired}
 use Rattle.sd_format.proofs.OptionLaws.{no_stricter}
 use Rattle.sd_format.proofs.EntryLaws.{length_entry, entry_lay, entry_plain}
 use Rattle.sd_format.proofs.PayloadLaws.{length_opening, part_entries, part_options, lay_read, ReadSays, read_says}
 use Rattle.sd_format.proofs.CallLaws.{lent_exactly, tables_left, index_laid, index_exact, message_exact}
 use Rattle.sd_format.proofs.Demand3.{demand3}
-use Rattle.sd_field.specs.Said.{Decoded, decoded}
+use Rattle.sd_field.specs.Said.{decoded}
 use Rattle.sd_payload.specs.Sized.{sized}
 use Rattle.sd_payload.specs.Reads.{flags_laid, summed}
 use Rattle.sd_payload.proofs.FlagsByName.{flags_by_name_laid}

@@ -12,8 +12,7 @@ use Rattle.numbers.proofs.AnswerLaws.{then_accepted, accepted_inj}
 use Rattle.sd_format.specs.Payload.{entries_length, options_part}
 use Rattle.sd_payload.specs.Sized.{sized}
 use Rattle.sd_payload.proofs.SizeLaws.{parts}
-use Rattle.hub.specs.declared.payload.Places.{Places}
-use Rattle.hub.specs.Payload.{nowhere, places_of, placed, places_told}
+use Rattle.hub.specs.Payload.{nowhere, placed, places_told}
 
 by_number : (n : ℕ) (s : List ℕ) (t : Bool) → eqb n 0 ≡ t → places_told n s ≡ cond t (placed s (sized s)) nowhere
 by_number n s t e = ap (λ (b : Bool). cond b (placed s (sized s)) nowhere) e

@@ -1,13 +1,12 @@
 -- What an answer's numbers mean to C. Assumes nothing.
-use Prim.Native.Nat.{ℕ, ◌≤◌, ◌<◌}
-use mathlib.Core.Path.{◌≡◌, refl, sym, subst}
+use Prim.Native.Nat.{ℕ, ◌≤◌}
+use mathlib.Core.Path.{refl, sym, subst}
 use mathlib.Core.List.{List}
 use native.Mathlib.Omega.{arith}
 use lib.ListN.{length}
 use Rattle.numbers.specs.Refusals as paper
 use Rattle.numbers.specs.Refusals.{gives}
-use Rattle.refusal.specs.declared.Refusal.{Refusal}
-use Rattle.refusal.specs.Said.{places, said}
+use Rattle.refusal.specs.Said.{places}
 use Rattle.refusal.specs.Rows as Rows
 use Rattle.refusal.proofs.Rows.{rows, padded_front, padded_behind}
 use Rattle.hub.specs.Answers.{row, refusal_row}

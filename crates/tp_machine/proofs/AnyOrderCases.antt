@@ -18,7 +18,7 @@ use Rattle.tp_machine.specs.Taking.{complete, ready, taking}
 use Rattle.tp_machine.specs.Cases.{◌more_at◌, ◌final_at◌}
 use Rattle.tp_machine.specs.Runs.{final}
 use Rattle.tp_machine.specs.AnyOrder.{Overlap, Suited, Feed, outcome, Agree}
-use Rattle.tp_machine.specs.AnyOrderCases.{◌of◌, over_zeros, over_nines, front, middle, back, Besides, Differ, Needed, empty_one, NoneEmptyNeeded, of_ones, of_twos, NoTwoOverlapNeeded, AnyOrderCases}
+use Rattle.tp_machine.specs.AnyOrderCases.{over_zeros, over_nines, front, middle, back, Besides, Differ, Needed, empty_one, NoneEmptyNeeded, of_ones, of_twos, NoTwoOverlapNeeded, AnyOrderCases}
 use Rattle.tp_machine.proofs.Lists.{and_inv}
 use Rattle.tp_machine.proofs.Tests.{segment_means}
 

@@ -1,11 +1,11 @@
 -- A segment's header by the names that the code has for its fields. Assumes nothing.
-use Prim.Native.Nat.{ℕ, zero, suc, ◌+◌, ◌*◌, ◌/◌, ◌%◌, ◌<◌}
+use Prim.Native.Nat.{ℕ, zero, suc, ◌%◌, ◌<◌}
 use mathlib.Core.Path.{◌≡◌, refl}
 use mathlib.Core.Bool.{cond}
 use mathlib.Core.List.{List}
 use native.Mathlib.Omega.{arith}
 use lib.Dec.{eqb}
-use lib.ListN.{length, length-drop}
+use lib.ListN.{length-drop}
 use Rattle.numbers.specs.Bytes.{at32}
 use Rattle.tp_machine.specs.Segments.{offset, more, payload}
 use Rattle.tp_segment.specs.ByName.{ByName}

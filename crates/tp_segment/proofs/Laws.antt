@@ -13,7 +13,7 @@ use Rattle.numbers.specs.Answers.{accepted, refused, refuse◌when◌else◌}
 use Rattle.numbers.proofs.AnswerLaws.{when_hit, when_pass, test_accepted, accepted_inj, refused_inj, not_refused}
 use Rattle.refusal.specs.Said.{said}
 use Rattle.refusal.proofs.OneToOne.{same_refusal}
-use Rattle.tp_machine.specs.Segments.{is_segment, tp_type, offset, more, payload, size}
+use Rattle.tp_machine.specs.Segments.{is_segment, tp_type, offset, more, payload}
 use Rattle.tp_segment.specs.declared.TpHeader.{TpHeader}
 use Rattle.tp_segment.specs.declared.SegmentAnswer.{SegmentAnswer}
 use Rattle.tp_segment.specs.declared.SegmentAnswer.TheVariants.{Good, Refused}

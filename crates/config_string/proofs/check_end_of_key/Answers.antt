@@ -1,6 +1,5 @@
 -- `config_string::check_end_of_key` meets its contract: each `return` is told which way the tests went. Assumes nothing.
 use mathlib.Core.Path.{sym, ◌∙◌}
-use borrow.Author.Rules.{rules}
 use borrow.Author.Tests.{eq-eqb, ne_eqb}
 use Rattle.numbers.proofs.AnswerLaws.{when_hit, when_pass}
 use Rattle.config_string.specs.Keys.{judge_end}

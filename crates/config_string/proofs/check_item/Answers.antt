@@ -1,7 +1,6 @@
 -- `config_string::check_item` meets its contract: too long, or judged by its key. Assumes nothing.
 use mathlib.Core.Path.{sym, ◌∙◌}
 use lib.Seq.{length-take-le}
-use borrow.Author.Rules.{rules}
 use borrow.Author.Tests.{lt-ltb, le-ltb}
 use Rattle.numbers.proofs.AnswerLaws.{when_hit, when_pass}
 use Rattle.sd_format.specs.Strings.{judge_item}

@@ -1,15 +1,12 @@
 -- `config_string::check_key` meets its contract. The invariant: the judgement of the key is that of what is left of it, after bytes that are no
 -- bad ones; `seen` is the space if all of them are spaces. The measure is what is left of the item. Assumes nothing.
-use Prim.Native.Nat.{ℕ, ◌+◌, ◌-◌}
-use mathlib.Core.Path.{◌≡◌, refl, sym, ap, subst, ◌∙◌}
+use Prim.Native.Nat.{◌+◌}
+use mathlib.Core.Path.{refl, sym, ap, subst, ◌∙◌}
 use mathlib.Core.Logic.{inl}
-use mathlib.Core.List.{List}
-use borrow.Author.Rules.{rules}
 use lib.Dec.{eqb}
-use lib.ListN.{length, get_or}
-use Rattle.sd_format.specs.Strings.{key_of, judge_key}
-use Rattle.config_string.specs.Classes.{space, class_of}
-use Rattle.config_string.proofs.ClassLaws.{OfKey, Told, told, Joined, joined}
+use lib.ListN.{get_or}
+use Rattle.config_string.specs.Classes.{space}
+use Rattle.config_string.proofs.ClassLaws.{Told, told, joined}
 use Rattle.config_string.proofs.KeyLaws.{key_left, left_whole, left_end, left_equals, left_bad, left_good}
 use Rattle.config_string.proofs.check_key.Goals as goal
 

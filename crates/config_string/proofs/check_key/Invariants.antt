@@ -1,14 +1,11 @@
-use Prim.Native.Nat.{ℕ, ◌+◌, ◌-◌}
-use mathlib.Core.Path.{◌≡◌, refl, sym, ap, subst, ◌∙◌}
-use mathlib.Core.Logic.{inl}
-use mathlib.Core.List.{List}
-use borrow.Author.Rules.{rules}
+use Prim.Native.Nat.{◌-◌}
+use mathlib.Core.Path.{◌≡◌}
 use lib.Dec.{eqb}
-use lib.ListN.{length, get_or}
+use lib.ListN.{length}
 use Rattle.sd_format.specs.Strings.{key_of, judge_key}
-use Rattle.config_string.specs.Classes.{space, class_of}
-use Rattle.config_string.proofs.ClassLaws.{OfKey, Told, told, Joined, joined}
-use Rattle.config_string.proofs.KeyLaws.{key_left, left_whole, left_end, left_equals, left_bad, left_good}
+use Rattle.config_string.specs.Classes.{space}
+use Rattle.config_string.proofs.ClassLaws.{OfKey}
+use Rattle.config_string.proofs.KeyLaws.{key_left}
 use Rattle.config_string.proofs.check_key.Given as goal
 
 abbrev pub invariant-loop-i : goal.invariant-loop-i

@@ -1,6 +1,5 @@
 -- `config_string::check_terminator` meets its contract: each `return` is told whether anything follows. Assumes nothing.
 use mathlib.Core.Path.{sym, ap, ◌∙◌}
-use borrow.Author.Rules.{rules}
 use Rattle.numbers.specs.Answers.{given, verdict}
 use Rattle.sd_format.proofs.StringLaws.{closed_last, closed_trailing}
 use Rattle.config_string.proofs.check_terminator.Goals as goal

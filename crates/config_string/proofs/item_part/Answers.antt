@@ -1,7 +1,6 @@
 -- `config_string::item_part` meets its contract: the item lies between the place and where the cursor stands afterwards. Assumes nothing.
 use mathlib.Core.Path.{sym, ap, ◌∙◌}
 use native.Mathlib.Omega.{arith}
-use borrow.Author.Rules.{rules}
 use Rattle.numbers.specs.Answers.{part}
 use Rattle.numbers.proofs.AnswerLaws.{given_refused}
 use Rattle.refusal.specs.Said.{count_said}

@@ -1,9 +1,7 @@
 -- `config_string::next_item` meets its contract: each `return` is told what stands at the place. Assumes nothing.
-use Prim.Native.Nat.{ℕ, ◌+◌, ◌-◌, ◌≤◌}
+use Prim.Native.Nat.{◌+◌, ◌-◌, ◌≤◌}
 use mathlib.Core.Path.{◌≡◌, sym, ap, ◌∙◌}
-use mathlib.Core.List.{List}
 use native.Mathlib.Omega.{arith}
-use borrow.Author.Rules.{rules}
 use lib.ListN.{length, get_or, drop}
 use Rattle.numbers.specs.Answers.{accepted, refused, given}
 use Rattle.refusal.specs.declared.answers.Verdict.{Verdict}

@@ -1,7 +1,6 @@
 -- `sd_entry::eventgroup_entry` meets its contract: a code of 6 or 7 that is not 6 is 7. Assumes nothing.
 use mathlib.Core.Path.{sym, ap₂, ◌∙◌}
 use native.Mathlib.Omega.{arith}
-use borrow.Author.Rules.{rules}
 use Rattle.numbers.specs.Answers.{accepted}
 use Rattle.sd_format.specs.Entries.{subscribe, subscribe_ack}
 use Rattle.sd_entry.proofs.Laws.{is_subscribe, is_subscribe_ack}

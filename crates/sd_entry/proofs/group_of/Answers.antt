@@ -1,5 +1,4 @@
 -- `sd_entry::group_of` meets its contract: each field is the number that its bytes make. Assumes nothing.
-use borrow.Author.Rules.{rules}
 use Rattle.sd_entry.proofs.Laws.{group_made}
 use Rattle.sd_entry.proofs.group_of.Goals as goal
 

@@ -1,5 +1,4 @@
 -- `sd_entry::head_of` meets its contract: each field is the number that its bytes make. Assumes nothing.
-use borrow.Author.Rules.{rules}
 use Rattle.sd_entry.proofs.Laws.{head_made}
 use Rattle.sd_entry.proofs.head_of.Goals as goal
 

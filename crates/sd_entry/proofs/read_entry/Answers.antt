@@ -2,7 +2,6 @@
 use mathlib.Core.Path.{sym, ◌∙◌}
 use mathlib.Core.Logic.{inl, inr}
 use native.Mathlib.Omega.{arith}
-use borrow.Author.Rules.{rules}
 use Rattle.sd_entry.proofs.Laws.{read_short, read_typed, read_unknown}
 use Rattle.sd_entry.proofs.read_entry.Goals as goal
 

@@ -1,7 +1,6 @@
 -- `sd_entry::service_entry` meets its contract: a code of at most 1 that is not 0 is 1. Assumes nothing.
 use mathlib.Core.Path.{sym, ap₂, ◌∙◌}
 use native.Mathlib.Omega.{arith}
-use borrow.Author.Rules.{rules}
 use Rattle.numbers.specs.Answers.{accepted}
 use Rattle.sd_format.specs.Entries.{find, offer}
 use Rattle.sd_entry.proofs.Laws.{minor_made, is_find, is_offer}

@@ -1,11 +1,10 @@
 -- `tp_range::greatest_end` meets its contract: the greatest end so far, and that of the rest, is that of all. Assumes nothing.
-use Prim.Native.Nat.{◌-◌, ◌≤◌, max}
+use Prim.Native.Nat.{◌≤◌}
 use mathlib.Core.Path.{◌≡◌, sym, ◌∙◌}
 use borrow.Author.Rules.{rules}
 use native.Mathlib.Omega.{arith}
-use lib.ListN.{length, take, drop}
+use lib.ListN.{length}
 use Rattle.tp_machine.specs.Machine.{most}
-use Rattle.tp_machine.specs.Ranges.{greatest_end}
 use Rattle.tp_range.specs.Joining.{none}
 use Rattle.tp_range.proofs.Laws.{greatest_start, greatest_next, greatest_done}
 use Rattle.tp_range.proofs.greatest_end.Goals as goal

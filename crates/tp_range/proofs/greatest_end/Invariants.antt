@@ -1,14 +1,8 @@
-use Prim.Native.Nat.{◌-◌, ◌≤◌, max}
-use mathlib.Core.Path.{◌≡◌, sym, ◌∙◌}
-use borrow.Author.Rules.{rules}
-use native.Mathlib.Omega.{arith}
-use lib.ListN.{length, take, drop}
-use Rattle.tp_machine.specs.Machine.{most}
+use Prim.Native.Nat.{◌-◌, max}
+use mathlib.Core.Path.{◌≡◌}
+use lib.ListN.{take, drop}
 use Rattle.tp_machine.specs.Ranges.{greatest_end}
-use Rattle.tp_range.specs.Joining.{none}
-use Rattle.tp_range.proofs.Laws.{greatest_start, greatest_next, greatest_done}
 use Rattle.tp_range.proofs.greatest_end.Given as goal
-
 
 abbrev pub invariant-loop-i : goal.invariant-loop-i
 invariant-loop-i l = max l.end (greatest_end (drop l.i (take l.held l.ranges))) ≡ greatest_end (take l.count l.ranges)

@@ -1,12 +1,12 @@
 -- `tp_range::in_order` meets its contract: whether all are in order is whether those that are left are. Assumes nothing.
-use Prim.Native.Nat.{◌-◌, ◌≤◌}
+use Prim.Native.Nat.{◌≤◌}
 use mathlib.Core.Path.{◌≡◌, refl, sym, ◌∙◌}
 use borrow.Author.Rules.{rules}
 use native.Mathlib.Omega.{arith}
 use borrow.Author.Tests.{lt-ltb, le-ltb}
-use lib.ListN.{length, take, drop}
+use lib.ListN.{length}
 use Rattle.tp_machine.specs.Machine.{most}
-use Rattle.tp_range.specs.Ordered.{rising, backward}
+use Rattle.tp_range.specs.Ordered.{backward}
 use Rattle.tp_range.proofs.OrderLaws.{rising_low, rising_bad, rising_next, rising_done}
 use Rattle.tp_range.proofs.in_order.Goals as goal
 

@@ -1,14 +1,8 @@
-use Prim.Native.Nat.{◌-◌, ◌≤◌}
-use mathlib.Core.Path.{◌≡◌, refl, sym, ◌∙◌}
-use borrow.Author.Rules.{rules}
-use native.Mathlib.Omega.{arith}
-use borrow.Author.Tests.{lt-ltb, le-ltb}
-use lib.ListN.{length, take, drop}
-use Rattle.tp_machine.specs.Machine.{most}
+use Prim.Native.Nat.{◌-◌}
+use mathlib.Core.Path.{◌≡◌}
+use lib.ListN.{take, drop}
 use Rattle.tp_range.specs.Ordered.{rising, backward}
-use Rattle.tp_range.proofs.OrderLaws.{rising_low, rising_bad, rising_next, rising_done}
 use Rattle.tp_range.proofs.in_order.Given as goal
-
 
 abbrev pub invariant-loop-i : goal.invariant-loop-i
 invariant-loop-i l = rising backward 0 (take l.count l.ranges) ≡ rising backward l.low (drop l.i (take l.count l.ranges))

@@ -1,5 +1,5 @@
 -- `tp_range::insert` meets its contract: in the loop those from i on have been moved one place further. Assumes nothing.
-use Prim.Native.Nat.{ℕ, ◌+◌, ◌-◌, ◌≤◌, ◌<◌}
+use Prim.Native.Nat.{ℕ, ◌+◌, ◌-◌, ◌<◌}
 use mathlib.Core.Path.{◌≡◌, sym, ap, ◌∙◌}
 use mathlib.Core.List.{List}
 use borrow.Author.Rules.{rules}
@@ -11,7 +11,6 @@ use Rattle.tp_machine.specs.declared.TpRange.{TpRange}
 use Rattle.tp_machine.specs.Machine.{most}
 use Rattle.tp_range.specs.Joining.{none}
 use Rattle.tp_range.proofs.Laws.{place_upto, moved, moved_none, moved_one, moved_in}
-use Rattle.tp_range.proofs.insert.Invariants.{Moved}
 use Rattle.tp_range.proofs.insert.Goals as goal
 
 pub place_of-at-requires : goal.place_of-at-requires

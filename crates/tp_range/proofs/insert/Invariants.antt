@@ -1,17 +1,11 @@
-use Prim.Native.Nat.{ℕ, ◌+◌, ◌-◌, ◌≤◌, ◌<◌}
-use mathlib.Core.Path.{◌≡◌, sym, ap, ◌∙◌}
+use Prim.Native.Nat.{ℕ, ◌≤◌}
+use mathlib.Core.Path.{◌≡◌}
 use mathlib.Core.List.{List}
-use borrow.Author.Rules.{rules}
-use native.Mathlib.Nat.{le_antisymm, le_of_lt}
-use native.Mathlib.Omega.{arith}
-use lib.ListN.{length, take, get_or, set, length-set}
-use lib.Seq.{length-take-le}
+use lib.ListN.{length}
 use Rattle.tp_machine.specs.declared.TpRange.{TpRange}
 use Rattle.tp_machine.specs.Machine.{most}
-use Rattle.tp_range.specs.Joining.{none}
-use Rattle.tp_range.proofs.Laws.{place_upto, moved, moved_none, moved_one, moved_in}
+use Rattle.tp_range.proofs.Laws.{moved}
 use Rattle.tp_range.proofs.insert.Given as goal
-
 
 pub record Moved (array : List TpRange) (count at : ℕ) (out : List TpRange) (i : ℕ) : Type 0 where
   pub from : at ≤ i

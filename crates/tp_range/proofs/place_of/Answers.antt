@@ -1,18 +1,14 @@
 -- `tp_range::place_of` meets its contract: none of those passed begins behind `start`, so that they and those that stand before the first of the rest
 -- are all. Assumes nothing.
-use Prim.Native.Nat.{ℕ, ◌+◌, ◌-◌, ◌≤◌}
+use Prim.Native.Nat.{◌≤◌}
 use mathlib.Core.Path.{◌≡◌, sym, ◌∙◌}
-use mathlib.Core.List.{List}
 use borrow.Author.Rules.{rules}
 use native.Mathlib.Nat.{le_antisymm}
 use native.Mathlib.Omega.{arith}
-use lib.ListN.{length, take, drop}
-use Rattle.tp_machine.specs.declared.TpRange.{TpRange}
+use lib.ListN.{length}
 use Rattle.tp_machine.specs.Machine.{most}
 use Rattle.tp_range.specs.Joining.{none}
-use Rattle.tp_range.specs.Inserting.{place}
 use Rattle.tp_range.proofs.Laws.{place_here, place_next, place_end}
-use Rattle.tp_range.proofs.place_of.Invariants.{Passed}
 use Rattle.tp_range.proofs.place_of.Goals as goal
 
 pub loop-i-init : goal.loop-i-init

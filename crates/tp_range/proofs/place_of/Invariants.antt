@@ -1,17 +1,10 @@
 use Prim.Native.Nat.{ℕ, ◌+◌, ◌-◌, ◌≤◌}
-use mathlib.Core.Path.{◌≡◌, sym, ◌∙◌}
+use mathlib.Core.Path.{◌≡◌}
 use mathlib.Core.List.{List}
-use borrow.Author.Rules.{rules}
-use native.Mathlib.Nat.{le_antisymm}
-use native.Mathlib.Omega.{arith}
-use lib.ListN.{length, take, drop}
+use lib.ListN.{take, drop}
 use Rattle.tp_machine.specs.declared.TpRange.{TpRange}
-use Rattle.tp_machine.specs.Machine.{most}
-use Rattle.tp_range.specs.Joining.{none}
 use Rattle.tp_range.specs.Inserting.{place}
-use Rattle.tp_range.proofs.Laws.{place_here, place_next, place_end}
 use Rattle.tp_range.proofs.place_of.Given as goal
-
 
 pub record Passed (array : List TpRange) (count start i : ℕ) : Type 0 where
   pub upto : i ≤ count

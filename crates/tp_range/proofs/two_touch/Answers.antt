@@ -1,11 +1,10 @@
 -- `tp_range::two_touch` meets its contract: those passed touch none behind them, so the answer for all is the answer for the rest. Assumes nothing.
-use Prim.Native.Nat.{◌-◌, ◌≤◌}
-use mathlib.Core.Path.{◌≡◌, refl, sym, ◌∙◌}
+use Prim.Native.Nat.{◌≤◌}
+use mathlib.Core.Path.{◌≡◌, sym, ◌∙◌}
 use borrow.Author.Rules.{rules}
 use native.Mathlib.Omega.{arith}
-use lib.ListN.{length, take, drop}
+use lib.ListN.{length}
 use Rattle.tp_machine.specs.Machine.{most}
-use Rattle.tp_machine.specs.Ranges.{any, touch, some_touch}
 use Rattle.tp_range.specs.Joining.{none}
 use Rattle.tp_range.proofs.Laws.{any_hit, any_miss, any_end, touch_hit, touch_miss, touch_end}
 use Rattle.tp_range.proofs.two_touch.Goals as goal

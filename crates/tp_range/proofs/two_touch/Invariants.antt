@@ -1,14 +1,8 @@
-use Prim.Native.Nat.{◌-◌, ◌≤◌}
-use mathlib.Core.Path.{◌≡◌, refl, sym, ◌∙◌}
-use borrow.Author.Rules.{rules}
-use native.Mathlib.Omega.{arith}
-use lib.ListN.{length, take, drop}
-use Rattle.tp_machine.specs.Machine.{most}
+use Prim.Native.Nat.{◌-◌}
+use mathlib.Core.Path.{◌≡◌}
+use lib.ListN.{take, drop}
 use Rattle.tp_machine.specs.Ranges.{any, touch, some_touch}
-use Rattle.tp_range.specs.Joining.{none}
-use Rattle.tp_range.proofs.Laws.{any_hit, any_miss, any_end, touch_hit, touch_miss, touch_end}
 use Rattle.tp_range.proofs.two_touch.Given as goal
-
 
 abbrev pub invariant-loop-j : goal.invariant-loop-j
 invariant-loop-j l = any (touch l.r) (drop l.j (take l.count l.ranges)) ≡ any (touch l.r) (drop l.i (take l.count l.ranges))

@@ -1,11 +1,9 @@
 -- `tp_segment::is_segment` meets its contract: by the tests in their order. Assumes nothing.
-use Prim.Native.Nat.{ℕ, ◌≤◌}
-use mathlib.Core.List.{List}
+use Prim.Native.Nat.{◌≤◌}
 use mathlib.Core.Path.{◌≡◌, sym, ◌∙◌}
 use lib.ListN.{length}
 use Rattle.numbers.specs.Bytes.{at16, at32}
 use Rattle.tp_segment.proofs.Laws.{is_short, is_length, is_version, is_type}
-use borrow.Author.Rules.{rules}
 use Rattle.tp_segment.proofs.is_segment.Goals as goal
 
 pub returns-then-s-lt-SEGMENT_HEADER_LEN : goal.returns-then-s-lt-SEGMENT_HEADER_LEN

@@ -6,7 +6,6 @@ use native.Mathlib.Omega.{arith}
 use Rattle.numbers.specs.Bytes.{at16, at32}
 use Rattle.tp_machine.proofs.Tests.{segment_means}
 use Rattle.tp_segment.proofs.Laws.{reads_not, reads_good}
-use borrow.Author.Rules.{rules}
 use Rattle.tp_segment.proofs.read.Goals as goal
 
 pub bounds-s-16 : goal.bounds-s-16

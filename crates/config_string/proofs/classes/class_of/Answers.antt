@@ -1,5 +1,4 @@
 -- `config_string::classes::class_of` meets its contract: the law over the table, at one byte. Assumes nothing.
-use borrow.Author.Rules.{rules}
 use Rattle.config_string.proofs.classes.class_of.Goals as goal
 
 pub returns : goal.returns

@@ -2,7 +2,6 @@
 use Rattle.hub.proofs.ToldLaws.{rowed}
 use mathlib.Core.List.{[]}
 use Rattle.numbers.specs.Refusals.{refusal}
-use borrow.Author.Rules.{rules}
 use Rattle.hub.proofs.answers.accepted.Goals as goal
 
 pub returns : goal.returns

@@ -6,7 +6,6 @@ use Rattle.numbers.specs.Refusals.{refusal}
 use Rattle.refusal.specs.declared.answers.Count.{Count}
 use Rattle.refusal.specs.Said.{count_said}
 use Rattle.hub.specs.Answers.{told, one_value}
-use borrow.Author.Rules.{rules}
 use Rattle.hub.proofs.answers.count_answer.Goals as goal
 
 pub returns-in-Good : goal.returns-in-Good

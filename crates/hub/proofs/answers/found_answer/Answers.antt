@@ -3,7 +3,6 @@ use Rattle.sd_index.specs.declared.lookup.FoundAnswer.{FoundAnswer}
 use Rattle.sd_index.specs.Found.{found_said}
 use Rattle.hub.specs.Answers.{told, located_values}
 use Rattle.hub.proofs.Arms.{arm}
-use borrow.Author.Rules.{rules}
 use Rattle.hub.proofs.answers.found_answer.Goals as goal
 
 pub returns-in-Good : goal.returns-in-Good

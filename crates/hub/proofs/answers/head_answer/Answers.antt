@@ -2,7 +2,6 @@
 use Rattle.hub.proofs.ToldLaws.{rowed}
 use Rattle.numbers.specs.Refusals.{refusal}
 use Rattle.hub.specs.Answers.{head_values}
-use borrow.Author.Rules.{rules}
 use Rattle.hub.proofs.answers.head_answer.Goals as goal
 
 pub returns : goal.returns

@@ -3,7 +3,6 @@ use Rattle.hub.proofs.Arms.{arm}
 use Rattle.sd_option.specs.declared.reading.OptionAnswer.{OptionAnswer}
 use Rattle.sd_option.specs.Reading.{option_said}
 use Rattle.hub.specs.Answers.{told, head_values}
-use borrow.Author.Rules.{rules}
 use Rattle.hub.proofs.answers.option_answer.Goals as goal
 
 pub returns-in-Good : goal.returns-in-Good

@@ -5,7 +5,6 @@ use Rattle.numbers.specs.Refusals.{refusal}
 use Rattle.tp_stream.specs.declared.telling.RangeAnswer.{RangeAnswer}
 use Rattle.tp_stream.specs.Telling.{range_said}
 use Rattle.hub.specs.Answers.{told, range_values}
-use borrow.Author.Rules.{rules}
 use Rattle.hub.proofs.answers.range_answer.Goals as goal
 
 pub returns-in-Good : goal.returns-in-Good

@@ -1,7 +1,6 @@
 -- `answers::refused` meets its contract. Assumes nothing.
 use Rattle.hub.proofs.ToldLaws.{rowed}
 use Rattle.refusal.specs.Said.{said}
-use borrow.Author.Rules.{rules}
 use Rattle.hub.proofs.answers.refused.Goals as goal
 
 pub returns : goal.returns

@@ -3,7 +3,6 @@ use Rattle.hub.proofs.Arms.{arm}
 use Rattle.refusal.specs.declared.answers.Verdict.{Verdict}
 use Rattle.refusal.specs.Said.{verdict_said}
 use Rattle.hub.specs.Answers.{told, no_values}
-use borrow.Author.Rules.{rules}
 use Rattle.hub.proofs.answers.verdict_answer.Goals as goal
 
 pub returns-in-Passed : goal.returns-in-Passed

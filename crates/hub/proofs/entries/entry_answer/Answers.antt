@@ -1,6 +1,5 @@
 -- `entries::entry_answer` meets its contract: each arm is told which case it has. Assumes nothing.
 use mathlib.Core.Path.{ap, ◌∙◌}
-use borrow.Author.Rules.{rules}
 use Rattle.sd_entry.specs.declared.EntryAnswer.{EntryAnswer}
 use Rattle.sd_entry.specs.Said.{answer_said}
 use Rattle.hub.specs.Entries.{entry_told, no_entry}

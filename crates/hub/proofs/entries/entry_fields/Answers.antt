@@ -1,5 +1,4 @@
 -- `entries::entry_fields` meets its contract: each arm is told which case it has. Assumes nothing.
-use borrow.Author.Rules.{rules}
 use Rattle.sd_entry.specs.declared.SdEntry.{SdEntry}
 use Rattle.sd_entry.specs.Said.{entry_said}
 use Rattle.hub.specs.Entries.{entry_fields}

@@ -1,5 +1,4 @@
 -- `entries::eventgroup_fields` meets its contract: each arm is told which case it has. Assumes nothing.
-use borrow.Author.Rules.{rules}
 use Rattle.sd_entry.specs.declared.EventGroupEntryType.{EventGroupEntryType}
 use Rattle.sd_entry.specs.Said.{eventgroup_said, head_said, group_said}
 use Rattle.hub.specs.Entries.{entry_fields}

@@ -1,5 +1,4 @@
 -- `entries::fields_of` meets its contract. Assumes nothing.
-use borrow.Author.Rules.{rules}
 use Rattle.hub.proofs.FieldLaws.{fields_made}
 use Rattle.hub.proofs.entries.fields_of.Goals as goal
 

@@ -1,5 +1,4 @@
 -- `entries::service_fields` meets its contract: each arm is told which case it has. Assumes nothing.
-use borrow.Author.Rules.{rules}
 use Rattle.sd_entry.specs.declared.SdServiceEntryType.{SdServiceEntryType}
 use Rattle.sd_entry.specs.Said.{service_said, head_said}
 use Rattle.hub.specs.Entries.{entry_fields}

@@ -1,6 +1,5 @@
 -- `entries::viaductle_read_entry` meets its contract. Assumes nothing.
 use mathlib.Core.Path.{ap, ◌∙◌}
-use borrow.Author.Rules.{rules}
 use Rattle.hub.specs.Entries.{entry_told}
 use Rattle.hub.proofs.entries.viaductle_read_entry.Goals as goal
 

@@ -5,7 +5,6 @@ use Rattle.sd_format.specs.Layout.{address_length}
 use Rattle.sd_field.specs.Said.{first_said, address_said}
 use Rattle.hub.specs.Options.{nowhere, behind_first}
 use Rattle.hub.proofs.FieldLaws.{fields_told}
-use borrow.Author.Rules.{rules}
 use Rattle.hub.proofs.options.fields_of.Goals as goal
 
 pub returns-in-Configuration : goal.returns-in-Configuration

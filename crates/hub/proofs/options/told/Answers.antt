@@ -1,6 +1,5 @@
 -- `options::told` meets its contract: its answer and its one bit. Assumes nothing.
 use Rattle.hub.proofs.FieldLaws.{option_made}
-use borrow.Author.Rules.{rules}
 use Rattle.hub.proofs.options.told.Goals as goal
 
 pub returns : goal.returns

@@ -1,5 +1,4 @@
 -- `options::viaductle_index` meets its contract. Assumes nothing.
-use borrow.Author.Rules.{rules}
 use Rattle.hub.proofs.ToldLaws.{indexes_as}
 use Rattle.hub.proofs.options.viaductle_index.Goals as goal
 

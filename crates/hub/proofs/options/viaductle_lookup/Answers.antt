@@ -1,6 +1,5 @@
 -- `options::viaductle_lookup` meets its contract. Assumes nothing.
 use mathlib.Core.Path.{ap, ◌∙◌}
-use borrow.Author.Rules.{rules}
 use Rattle.hub.specs.Answers.{told, located_values}
 use Rattle.hub.proofs.ToldLaws.{located_told}
 use Rattle.hub.proofs.options.viaductle_lookup.Goals as goal

@@ -1,16 +1,12 @@
 -- `options::viaductle_next_item` meets its contract. Assumes nothing.
 use Prim.Native.Nat.{◌+◌, ◌-◌}
-use mathlib.Core.Path.{◌≡◌, sym, ap, ◌∙◌}
+use mathlib.Core.Path.{sym, ap, ◌∙◌}
 use mathlib.Core.List.{[], ◌∷◌}
 use native.Mathlib.Omega.{arith}
 use Rattle.numbers.specs.Refusals.{refusal}
-use Rattle.numbers.specs.Answers.{given}
-use Rattle.refusal.specs.declared.answers.Count.{Count}
 use Rattle.refusal.specs.Said.{count_said}
-use Rattle.config_string.specs.Items.{next_item, past}
 use Rattle.hub.proofs.ToldLaws.{rowed}
 use Rattle.hub.proofs.ItemLaws.{next_behind, item_told, none_told}
-use borrow.Author.Rules.{rules}
 use Rattle.hub.proofs.options.viaductle_next_item.Goals as goal
 
 pub overflow_add-start : goal.overflow_add-start

@@ -1,6 +1,5 @@
 -- `options::viaductle_next_option` meets its contract. Assumes nothing.
 use mathlib.Core.Path.{ap, ◌∙◌}
-use borrow.Author.Rules.{rules}
 use Rattle.sd_format.specs.Settings.{Settings}
 use Rattle.sd_format.specs.Frames.{next_option}
 use Rattle.hub.specs.Answers.{told, head_values, option_values}

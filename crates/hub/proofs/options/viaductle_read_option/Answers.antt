@@ -10,7 +10,6 @@ use Rattle.sd_field.specs.declared.FieldsAnswer.{FieldsAnswer}
 use Rattle.hub.specs.Settings.{settings_of}
 use Rattle.hub.specs.Options.{no_option, option_told, read_option_told}
 use Rattle.hub.proofs.FieldLaws.{four_bytes}
-use borrow.Author.Rules.{rules}
 use Rattle.hub.proofs.options.viaductle_read_option.Goals as goal
 
 -- what was read, in the case that an arm has

@@ -1,7 +1,6 @@
 -- `options::viaductle_string` meets its contract. Assumes nothing.
 use mathlib.Core.Path.{ap, ◌∙◌}
 use Rattle.hub.specs.Answers.{told, no_values}
-use borrow.Author.Rules.{rules}
 use Rattle.hub.proofs.options.viaductle_string.Goals as goal
 
 pub returns : goal.returns

@@ -9,7 +9,6 @@ use Rattle.hub.specs.Answers.{row, told}
 use Rattle.hub.specs.Payload.{summary_values}
 use Rattle.hub.proofs.Arms.{arm}
 use Rattle.hub.proofs.ToldLaws.{rowed}
-use borrow.Author.Rules.{rules}
 use Rattle.hub.proofs.payload.payload_answer.Goals as goal
 
 pub returns-in-Good : goal.returns-in-Good

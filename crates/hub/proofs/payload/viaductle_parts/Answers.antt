@@ -6,7 +6,6 @@ use Rattle.refusal.specs.Said.{count_said}
 use Rattle.sd_payload.specs.Sized.{sized}
 use Rattle.sd_payload.proofs.SizeLaws.{parts}
 use Rattle.hub.proofs.PlaceLaws.{none_after_refusal, none_of_bad_sizes, placed_there}
-use borrow.Author.Rules.{rules}
 use Rattle.hub.proofs.payload.viaductle_parts.Goals as goal
 use Prim.Native.Nat.{ℕ}
 use mathlib.Core.List.{List}

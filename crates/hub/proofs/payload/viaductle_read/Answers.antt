@@ -3,7 +3,6 @@ use mathlib.Core.Path.{ap}
 use Rattle.sd_format.specs.Settings.{Settings}
 use Rattle.sd_format.specs.Payload.{read_payload}
 use Rattle.hub.proofs.ToldLaws.{reads_as}
-use borrow.Author.Rules.{rules}
 use Rattle.hub.proofs.payload.viaductle_read.Goals as goal
 
 pub returns : goal.returns

@@ -1,7 +1,6 @@
 -- `tp::viaductle_begin` meets its contract. Assumes nothing.
 use native.Mathlib.Omega.{arith}
 use Rattle.hub.proofs.TpLaws.{begins_few, begins}
-use borrow.Author.Rules.{rules}
 use Rattle.hub.proofs.tp.viaductle_begin.Goals as goal
 
 pub returns-then-words-lt-WORDS : goal.returns-then-words-lt-WORDS

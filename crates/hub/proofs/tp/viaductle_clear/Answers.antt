@@ -1,6 +1,5 @@
 -- `tp::viaductle_clear` meets its contract. Assumes nothing.
 use Rattle.hub.proofs.TpLaws.{clears}
-use borrow.Author.Rules.{rules}
 use Rattle.hub.proofs.tp.viaductle_clear.Goals as goal
 
 pub returns : goal.returns

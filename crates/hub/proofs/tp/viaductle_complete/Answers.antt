@@ -1,6 +1,5 @@
 -- `tp::viaductle_complete` meets its contract. Assumes nothing.
 use Rattle.hub.proofs.TpLaws.{completed}
-use borrow.Author.Rules.{rules}
 use Rattle.hub.proofs.tp.viaductle_complete.Goals as goal
 
 pub returns-then-complete : goal.returns-then-complete

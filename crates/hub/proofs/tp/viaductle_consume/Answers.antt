@@ -1,6 +1,5 @@
 -- `tp::viaductle_consume` meets its contract. Assumes nothing.
 use Rattle.hub.proofs.TpLaws.{passed, stopped, consumes}
-use borrow.Author.Rules.{rules}
 use Rattle.hub.proofs.tp.viaductle_consume.Goals as goal
 
 pub returns-in_default : goal.returns-in_default

@@ -4,7 +4,6 @@ use Rattle.tp_machine.specs.Telling.{count_told}
 use Rattle.tp_stream.specs.declared.TpStream.{TpStream}
 use Rattle.tp_stream.specs.Stream.{view}
 use Rattle.hub.specs.Answers.{told, one_value}
-use borrow.Author.Rules.{rules}
 use Rattle.hub.proofs.tp.viaductle_count.Goals as goal
 
 pub returns : goal.returns

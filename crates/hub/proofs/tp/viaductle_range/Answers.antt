@@ -4,7 +4,6 @@ use Rattle.tp_machine.specs.Telling.{range_told}
 use Rattle.tp_stream.specs.declared.TpStream.{TpStream}
 use Rattle.tp_stream.specs.Stream.{view}
 use Rattle.hub.specs.Answers.{told, range_values}
-use borrow.Author.Rules.{rules}
 use Rattle.hub.proofs.tp.viaductle_range.Goals as goal
 
 pub returns : goal.returns

@@ -1,7 +1,6 @@
 -- `tp::viaductle_take` meets its contract. Assumes nothing.
 use native.Mathlib.Omega.{arith}
 use Rattle.hub.proofs.TpLaws.{taken_low, taken, taken_not}
-use borrow.Author.Rules.{rules}
 use Rattle.hub.proofs.tp.viaductle_take.Goals as goal
 
 pub returns-in_default : goal.returns-in_default

@@ -1,5 +1,4 @@
 -- `sd_entry::SdEntry::head` meets its contract: each arm is told which kind it has. Assumes nothing.
-use borrow.Author.Rules.{rules}
 use Rattle.sd_entry.proofs.Laws.{head_field_said}
 use Rattle.sd_entry.proofs.SdEntry.head.Goals as goal
 

@@ -1,8 +1,7 @@
 -- `sd_entry::runs::judge_entry` meets its contract: the length, the type by its ranges, then the runs. Assumes nothing.
 use mathlib.Core.Path.{sym, ◌∙◌}
-use mathlib.Core.Logic.{inl, inr, ⊎_elim}
+use mathlib.Core.Logic.{inl, inr}
 use native.Mathlib.Omega.{arith}
-use borrow.Author.Rules.{rules}
 use Rattle.sd_entry.proofs.Laws.{read_short, read_unknown, placed_refused, placed_known}
 use Rattle.sd_entry.proofs.runs.judge_entry.Goals as goal
 use Rattle.sd_entry.proofs.runs.judge_entry.Goals.{then-code-lt2, else-code-lt2+else-code-lt6+then-code-lt8}

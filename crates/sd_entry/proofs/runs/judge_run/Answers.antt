@@ -1,6 +1,5 @@
 -- `sd_entry::runs::judge_run` meets its contract: inside the list, or not. Assumes nothing.
 use mathlib.Core.Path.{sym, ◌∙◌}
-use borrow.Author.Rules.{rules}
 use Rattle.sd_entry.proofs.Laws.{run_in, run_out}
 use Rattle.sd_entry.proofs.runs.judge_run.Goals as goal
 

@@ -1,6 +1,5 @@
 -- `sd_entry::runs::judge_runs` meets its contract: run 1 is judged before run 2. Assumes nothing.
 use mathlib.Core.Path.{sym, ◌∙◌}
-use borrow.Author.Rules.{rules}
 use Rattle.sd_entry.proofs.Laws.{run_1_refused, run_1_passed}
 use Rattle.sd_entry.proofs.runs.judge_runs.Goals as goal
 

@@ -1,6 +1,5 @@
 -- `sd_entry::runs::run_inside` meets its contract: no option, or where the run ends. Assumes nothing.
 use mathlib.Core.Path.{sym}
-use borrow.Author.Rules.{rules}
 use Rattle.sd_entry.proofs.Laws.{run_empty, run_held}
 use Rattle.sd_entry.proofs.runs.run_inside.Goals as goal
 
