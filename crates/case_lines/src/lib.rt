@@ -37,41 +37,41 @@ pub fn word(settings: Settings) -> u32 {
 }
 
 // Says so where an exported function told something else.
-pub fn exported(said: Numbers, told: Answer) {
+pub fn exported(rt: &impl Print, said: Numbers, told: Answer) {
     let values = told.values;
     if !replay::same(said, told.number, values) {
-        text(b", but C is told something else");
+        text(rt, b", but C is told something else");
     }
 }
 
 // That it was accepted or refused.
-pub fn judged(said: Numbers, told: Answer) {
+pub fn judged(rt: &impl Print, said: Numbers, told: Answer) {
     if said.number == 0 {
-        text(b"accepted");
+        text(rt, b"accepted");
     } else {
-        refused(said);
+        refused(rt, said);
     }
-    exported(said, told);
+    exported(rt, said, told);
 }
 
 // A line: what was read, and that it was accepted or refused.
-pub fn answer(name: &[u8], said: Numbers, told: Answer) {
-    text(name);
-    text(b": ");
-    judged(said, told);
-    text(b"\n");
+pub fn answer(rt: &impl Print, name: &[u8], said: Numbers, told: Answer) {
+    text(rt, name);
+    text(rt, b": ");
+    judged(rt, said, told);
+    text(rt, b"\n");
 }
 
 // The flags that are set.
-fn flags(f: SdHeaderFlags) {
+fn flags(rt: &impl Print, f: SdHeaderFlags) {
     if f.reboot {
-        text(b", reboot");
+        text(rt, b", reboot");
     }
     if f.unicast {
-        text(b", unicast");
+        text(rt, b", unicast");
     }
     if f.explicit_initial_data_control {
-        text(b", explicit initial data control");
+        text(rt, b", explicit initial data control");
     }
 }
 
@@ -85,46 +85,46 @@ fn counted(p: SdPayload) -> Numbers {
 }
 
 // The answer to a payload is printed; answers its number and values.
-fn answered(answer: PayloadAnswer) -> Numbers {
+fn answered(rt: &impl Print, answer: PayloadAnswer) -> Numbers {
     match answer {
         PayloadAnswer::Good(p) => {
             let f = p.flags;
-            text(b"accepted");
-            flags(f);
-            text(b", entries ");
-            number(p.entries);
-            text(b", options ");
-            number(p.options);
+            text(rt, b"accepted");
+            flags(rt, f);
+            text(rt, b", entries ");
+            number(rt, p.entries);
+            text(rt, b", options ");
+            number(rt, p.options);
             counted(p)
         }
         PayloadAnswer::Refused(refusal) => {
             let said = numbers_of(refusal);
-            refused(said);
+            refused(rt, said);
             said
         }
     }
 }
 
 // A line of a payload, or of a message with one: what was accepted is told too.
-fn reading(name: &[u8], answer: PayloadAnswer, told: Answer) {
-    text(name);
-    text(b": ");
-    exported(answered(answer), told);
-    text(b"\n");
+fn reading(rt: &impl Print, name: &[u8], answer: PayloadAnswer, told: Answer) {
+    text(rt, name);
+    text(rt, b": ");
+    exported(rt, answered(rt, answer), told);
+    text(rt, b"\n");
 }
 
 // A payload is read.
-pub fn payload(name: &[u8], payload: &[u8], settings: Settings) {
+pub fn payload(rt: &impl Print, name: &[u8], payload: &[u8], settings: Settings) {
     let mut table = [0u16; SLOTS];
     let answer = read_payload(settings, payload, &mut table);
     let told = viaductle_read(payload, &mut table, word(settings));
-    reading(name, answer, told);
+    reading(rt, name, answer, told);
 }
 
 // A message is read.
-pub fn message(name: &[u8], message: &[u8], settings: Settings) {
+pub fn message(rt: &impl Print, name: &[u8], message: &[u8], settings: Settings) {
     let mut table = [0u16; SLOTS];
     let answer = read_message(settings, message, &mut table);
     let told = viaductle_read_message(message, &mut table, word(settings));
-    reading(name, answer, told);
+    reading(rt, name, answer, told);
 }

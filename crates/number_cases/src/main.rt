@@ -14,37 +14,38 @@ use tp_stream::{LAST_NUMBER, RangeAnswer, TpStream};
 use tp_words::{WORDS, put};
 
 // How many segments were accepted, here and by the exported function.
-fn count(s: TpStream, words: &[u32]) {
+fn count(rt: &impl Print, s: TpStream, words: &[u32]) {
     let answer = tp_stream::accepted(s);
     let told = viaductle_count(words);
-    text(b"count ");
+    text(rt, b"count ");
     match answer {
         Count::Good(n) => {
-            number(n);
-            exported(one(0, n as u64), told);
+            number(rt, n);
+            exported(rt, one(0, n as u64), told);
         }
-        Count::Refused(refusal) => judged(numbers_of(refusal), told),
+        Count::Refused(refusal) => judged(rt, numbers_of(refusal), told),
     }
 }
 
 // A range with its number, in words.
-fn describe(range: TpRange) {
-    text(b"; ");
-    number(range.start as usize);
-    text(b" to ");
-    number(range.end as usize);
-    text(b" has ");
-    number(range.number as usize);
+fn describe(rt: &impl Print, range: TpRange) {
+    text(rt, b"; ");
+    number(rt, range.start as usize);
+    text(rt, b" to ");
+    number(rt, range.end as usize);
+    text(rt, b" has ");
+    number(rt, range.number as usize);
 }
 
 // The range that begins first at `from` or behind it, here and by the exported function; answers from where to ask again, or 65536 where there is none.
-fn next(s: TpStream, words: &[u32], from: u32) -> u32 {
+fn next(rt: &impl Print, s: TpStream, words: &[u32], from: u32) -> u32 {
     let answer = tp_stream::range_from(s, from);
     let told = viaductle_range(words, from);
     match answer {
         RangeAnswer::Good(range) => {
-            describe(range);
+            describe(rt, range);
             exported(
+                rt,
                 three(0, range.start as u64, range.end as u64, range.number as u64),
                 told,
             );
@@ -54,74 +55,74 @@ fn next(s: TpStream, words: &[u32], from: u32) -> u32 {
             65536
         }
         RangeAnswer::Refused(refusal) => {
-            exported(numbers_of(refusal), told);
+            exported(rt, numbers_of(refusal), told);
             65536
         }
     }
 }
 
 // The count and all ranges as they begin.
-fn numbers(s: TpStream, words: &[u32]) {
-    count(s, words);
+fn numbers(rt: &impl Print, s: TpStream, words: &[u32]) {
+    count(rt, s, words);
     let mut from: u32 = 0;
     let mut i: usize = 0;
     while i <= MAX_RANGES {
         if from < 65536 {
-            from = next(s, words, from);
+            from = next(rt, s, words, from);
         }
         i += 1;
     }
 }
 
 // The same, and the line ends.
-fn told(s: TpStream, words: &[u32]) {
-    numbers(s, words);
-    text(b"\n");
+fn told(rt: &impl Print, s: TpStream, words: &[u32]) {
+    numbers(rt, s, words);
+    text(rt, b"\n");
 }
 
 // Three segments come, and then the numbers are told.
-fn three_come(a: Piece, b: Piece, c: Piece) {
+fn three_come(rt: &impl Print, a: Piece, b: Piece, c: Piece) {
     let mut buf = [0u8; ROOM];
     let mut other = [0u8; ROOM];
     let mut words = [0u32; WORDS];
-    let fresh = begun(64, &mut words);
-    let s = comes(fresh, &mut buf, &mut words, &mut other, a);
-    let t = comes(s, &mut buf, &mut words, &mut other, b);
-    let u = comes(t, &mut buf, &mut words, &mut other, c);
-    told(u, &words);
+    let fresh = begun(rt, 64, &mut words);
+    let s = comes(rt, fresh, &mut buf, &mut words, &mut other, a);
+    let t = comes(rt, s, &mut buf, &mut words, &mut other, b);
+    let u = comes(rt, t, &mut buf, &mut words, &mut other, c);
+    told(rt, u, &words);
 }
 
 // Clears a stream, and the exported one.
-fn cleared(s: TpStream, words: &mut [u32]) -> TpStream {
-    text(b"cleared");
-    exported(none(0), viaductle_clear(words));
-    text(b"; ");
+fn cleared(rt: &impl Print, s: TpStream, words: &mut [u32]) -> TpStream {
+    text(rt, b"cleared");
+    exported(rt, none(0), viaductle_clear(words));
+    text(rt, b"; ");
     tp_stream::clear(s)
 }
 
 // A report is complete and taken, the stream is cleared, and a segment comes: they begin at 1 again.
-fn again() {
+fn again(rt: &impl Print) {
     let mut buf = [0u8; ROOM];
     let mut other = [0u8; ROOM];
     let mut words = [0u32; WORDS];
-    let fresh = begun(64, &mut words);
-    let s = comes(fresh, &mut buf, &mut words, &mut other, last(16, 16));
-    let t = comes(s, &mut buf, &mut words, &mut other, more(0, 16));
-    numbers(t, &words);
-    text(b"; ");
-    taken(t, &mut buf, &words, &mut other);
-    let u = cleared(t, &mut words);
-    let v = comes(u, &mut buf, &mut words, &mut other, more(32, 16));
-    told(v, &words);
+    let fresh = begun(rt, 64, &mut words);
+    let s = comes(rt, fresh, &mut buf, &mut words, &mut other, last(16, 16));
+    let t = comes(rt, s, &mut buf, &mut words, &mut other, more(0, 16));
+    numbers(rt, t, &words);
+    text(rt, b"; ");
+    taken(rt, t, &mut buf, &words, &mut other);
+    let u = cleared(rt, t, &mut words);
+    let v = comes(rt, u, &mut buf, &mut words, &mut other, more(32, 16));
+    told(rt, v, &words);
 }
 
 // A stream of limit 64 that holds 0 to 16 with this number, after so many accepted segments, and the same in words: made by hand.
-fn made(held: u32, accepted: u32, words: &mut [u32]) -> TpStream {
-    text(b"made by hand, 0 to 16 has ");
-    number(held as usize);
-    text(b", count ");
-    number(accepted as usize);
-    text(b"; ");
+fn made(rt: &impl Print, held: u32, accepted: u32, words: &mut [u32]) -> TpStream {
+    text(rt, b"made by hand, 0 to 16 has ");
+    number(rt, held as usize);
+    text(rt, b", count ");
+    number(rt, accepted as usize);
+    text(rt, b"; ");
     let range = TpRange {
         start: 0,
         end: 16,
@@ -140,34 +141,34 @@ fn made(held: u32, accepted: u32, words: &mut [u32]) -> TpStream {
 }
 
 // A segment comes to a stream that was made by hand.
-fn by_hand(held: u32, accepted: u32) {
+fn by_hand(rt: &impl Print, held: u32, accepted: u32) {
     let mut buf = [0u8; ROOM];
     let mut other = [0u8; ROOM];
     let mut words = [0u32; WORDS];
-    let hand = made(held, accepted, &mut words);
-    let s = comes(hand, &mut buf, &mut words, &mut other, more(16, 16));
-    told(s, &words);
+    let hand = made(rt, held, accepted, &mut words);
+    let s = comes(rt, hand, &mut buf, &mut words, &mut other, more(16, 16));
+    told(rt, s, &words);
 }
 
 // The last number is given, the next segment is refused, and so it is until the stream is cleared.
-fn last_number() {
+fn last_number(rt: &impl Print) {
     let mut buf = [0u8; ROOM];
     let mut other = [0u8; ROOM];
     let mut words = [0u32; WORDS];
-    let hand = made(1, LAST_NUMBER - 1, &mut words);
-    let s = comes(hand, &mut buf, &mut words, &mut other, last(16, 16));
-    let t = comes(s, &mut buf, &mut words, &mut other, last(16, 16));
-    numbers(t, &words);
-    text(b"; ");
-    taken(t, &mut buf, &words, &mut other);
-    let u = cleared(t, &mut words);
-    let v = comes(u, &mut buf, &mut words, &mut other, last(16, 16));
-    told(v, &words);
+    let hand = made(rt, 1, LAST_NUMBER - 1, &mut words);
+    let s = comes(rt, hand, &mut buf, &mut words, &mut other, last(16, 16));
+    let t = comes(rt, s, &mut buf, &mut words, &mut other, last(16, 16));
+    numbers(rt, t, &words);
+    text(rt, b"; ");
+    taken(rt, t, &mut buf, &words, &mut other);
+    let u = cleared(rt, t, &mut words);
+    let v = comes(rt, u, &mut buf, &mut words, &mut other, last(16, 16));
+    told(rt, v, &words);
 }
 
 // A stream of limit 64 that holds 64 ranges of no byte, 0 to 0, 1 to 1 and so on, with no number left, and the same in words: made by hand.
-fn full_at_last(words: &mut [u32]) -> TpStream {
-    text(b"made by hand, 64 ranges, count 4294967295; ");
+fn full_at_last(rt: &impl Print, words: &mut [u32]) -> TpStream {
+    text(rt, b"made by hand, 64 ranges, count 4294967295; ");
     let first = TpRange {
         start: 0,
         end: 0,
@@ -195,31 +196,31 @@ fn full_at_last(words: &mut [u32]) -> TpStream {
 }
 
 // One range more is refused with 35; a segment that joins ranges has a place, and is refused with 39.
-fn full_first() {
+fn full_first(rt: &impl Print) {
     let mut buf = [0u8; ROOM];
     let mut other = [0u8; ROOM];
     let mut words = [0u32; WORDS];
-    let hand = full_at_last(&mut words);
-    let s = comes(hand, &mut buf, &mut words, &mut other, more(64, 0));
-    let t = comes(s, &mut buf, &mut words, &mut other, more(48, 16));
-    count(t, &words);
-    text(b"\n");
+    let hand = full_at_last(rt, &mut words);
+    let s = comes(rt, hand, &mut buf, &mut words, &mut other, more(64, 0));
+    let t = comes(rt, s, &mut buf, &mut words, &mut other, more(48, 16));
+    count(rt, t, &words);
+    text(rt, b"\n");
 }
 
-fn main() {
+fn main(rt: HostRuntime) {
     // Two that touch, three that join, and one that is not touched: the larger number is kept.
-    three_come(more(0, 16), more(16, 16), more(48, 16));
-    three_come(more(32, 16), more(0, 16), more(16, 16));
-    three_come(more(0, 16), more(48, 16), more(0, 16));
+    three_come(&rt, more(0, 16), more(16, 16), more(48, 16));
+    three_come(&rt, more(32, 16), more(0, 16), more(16, 16));
+    three_come(&rt, more(0, 16), more(48, 16), more(0, 16));
     // A refused one between counts nowhere, an empty one counts.
-    three_come(more(0, 16), more(16, 15), more(16, 16));
-    three_come(more(0, 16), more(16, 0), more(48, 16));
-    again();
+    three_come(&rt, more(0, 16), more(16, 15), more(16, 16));
+    three_come(&rt, more(0, 16), more(16, 0), more(48, 16));
+    again(&rt);
     // 4294967295 is given, and then 39; 35 comes before it.
-    last_number();
-    full_first();
+    last_number(&rt);
+    full_first(&rt);
     // Number 0, and one above the count: 38. The count itself is well.
-    by_hand(0, 5);
-    by_hand(6, 5);
-    by_hand(5, 5);
+    by_hand(&rt, 0, 5);
+    by_hand(&rt, 6, 5);
+    by_hand(&rt, 5, 5);
 }

@@ -6,7 +6,7 @@ mod places; // places.rt: at which byte an option is refused
 mod protocols; // protocols.rt: the strict setting
 mod readings; // readings.rt: one option by every call that reads it
 
-fn main() {
-    places::all();
-    protocols::all();
+fn main(rt: HostRuntime) {
+    places::all(&rt);
+    protocols::all(&rt);
 }

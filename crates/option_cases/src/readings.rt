@@ -9,7 +9,7 @@ use sd_option::Settings;
 use sd_option::reading::{OptionAnswer, read_option};
 
 // An option alone.
-fn alone(name: &[u8], option: &[u8], settings: Settings) {
+fn alone(rt: &impl Print, name: &[u8], option: &[u8], settings: Settings) {
     let read = read_option(settings, option);
     let said = match read {
         OptionAnswer::Good(_) => none(0),
@@ -17,11 +17,11 @@ fn alone(name: &[u8], option: &[u8], settings: Settings) {
     };
     let told = viaductle_read_option(option, word(settings));
     let told = told.answer;
-    answer(name, said, told);
+    answer(rt, name, said, told);
 }
 
 // An option at a place among others, by the cursor.
-fn by_cursor(name: &[u8], options: &[u8], at: usize, settings: Settings) {
+fn by_cursor(rt: &impl Print, name: &[u8], options: &[u8], at: usize, settings: Settings) {
     let cursor = OptionCursor { at: Offset(at) };
     let step = cursor.next(settings, options);
     let read = step.answer;
@@ -30,6 +30,7 @@ fn by_cursor(name: &[u8], options: &[u8], at: usize, settings: Settings) {
         OptionAnswer::Refused(refusal) => numbers_of(refusal),
     };
     answer(
+        rt,
         name,
         said,
         viaductle_next_option(options, at, word(settings)),
@@ -37,7 +38,7 @@ fn by_cursor(name: &[u8], options: &[u8], at: usize, settings: Settings) {
 }
 
 // An index.
-fn in_index(name: &[u8], options: &[u8], settings: Settings) {
+fn in_index(rt: &impl Print, name: &[u8], options: &[u8], settings: Settings) {
     let mut table = [0u16; SLOTS];
     let read = sd_index::read_index(settings, options, &mut table);
     let said = match read {
@@ -45,6 +46,7 @@ fn in_index(name: &[u8], options: &[u8], settings: Settings) {
         Count::Refused(refusal) => numbers_of(refusal),
     };
     answer(
+        rt,
         name,
         said,
         viaductle_index(options, &mut table, word(settings)),
@@ -52,28 +54,32 @@ fn in_index(name: &[u8], options: &[u8], settings: Settings) {
 }
 
 // The second option of a message that has no entries, behind an option of four bytes: each call reads its part of the message.
-pub(crate) fn by_all(name: &[u8], bytes: &[u8], settings: Settings)
+pub(crate) fn by_all(rt: &impl Print, name: &[u8], bytes: &[u8], settings: Settings)
     requires { 32 ≤ length bytes.now }
 {
     let options = &bytes[28..];
-    alone(name, &bytes[32..], settings);
+    alone(rt, name, &bytes[32..], settings);
     by_cursor(
+        rt,
         b"the same by the cursor, behind another option",
         options,
         4,
         settings,
     );
     in_index(
+        rt,
         b"the same in an index, behind another option",
         options,
         settings,
     );
     payload(
+        rt,
         b"the same in a payload, behind another option",
         &bytes[16..],
         settings,
     );
     message(
+        rt,
         b"the same in a message, behind another option",
         bytes,
         settings,

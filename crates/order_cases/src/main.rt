@@ -49,16 +49,17 @@ const WHOLE: [u8; 52] = *b"\
     \0\0\0\0gggggggggggggggggggggggggggggggg";
 
 // A segment's payload.
-fn payload(segment: &[u8]) {
+fn payload(rt: &impl Print, segment: &[u8]) {
     if segment.len() <= 20 {
-        text(b"no byte");
+        text(rt, b"no byte");
         return;
     }
-    bytes(&segment[20..]);
+    bytes(rt, &segment[20..]);
 }
 
 // One segment comes; its payload is printed with the answer. No bytes at all are none.
 fn comes(
+    rt: &impl Print,
     s: TpStream,
     segment: &[u8],
     buf: &mut [u8],
@@ -68,70 +69,74 @@ fn comes(
     if segment.len() == 0 {
         return s;
     }
-    payload(segment);
-    text(b" ");
+    payload(rt, segment);
+    text(rt, b" ");
     let step = tp_stream::consume(s, segment, buf);
     let answer = step.answer;
-    judged(said_of(answer), viaductle_consume(words, segment, other));
-    text(b"; ");
+    judged(
+        rt,
+        said_of(answer),
+        viaductle_consume(words, segment, other),
+    );
+    text(rt, b"; ");
     step.stream
 }
 
 // A message: its id, its length field, and what stands behind the header.
-fn message(m: &[u8]) {
+fn message(rt: &impl Print, m: &[u8]) {
     if m.len() < 16 {
         return;
     }
-    coded(be32(m[0], m[1], m[2], m[3]) as u64, 8);
-    text(b", length field ");
-    number(be32(m[4], m[5], m[6], m[7]) as usize);
-    text(b", ");
-    bytes(&m[16..]);
+    coded(rt, be32(m[0], m[1], m[2], m[3]) as u64, 8);
+    text(rt, b", length field ");
+    number(rt, be32(m[4], m[5], m[6], m[7]) as usize);
+    text(rt, b", ");
+    bytes(rt, &m[16..]);
 }
 
 // The report is taken; prints it, and all of the exported one's buffer.
-fn taken(s: TpStream, buf: &mut [u8], words: &[u32], other: &mut [u8]) {
+fn taken(rt: &impl Print, s: TpStream, buf: &mut [u8], words: &[u32], other: &mut [u8]) {
     let answer = tp_stream::take(s, buf);
     let told = viaductle_take(words, other);
     match answer {
         Count::Good(_) => {
             let report = tp_stream::report(s, buf);
-            message(report);
-            exported(one(0, report.len() as u64), told);
-            text(b"; exported ");
-            message(other);
+            message(rt, report);
+            exported(rt, one(0, report.len() as u64), told);
+            text(rt, b"; exported ");
+            message(rt, other);
         }
-        Count::Refused(refusal) => judged(numbers_of(refusal), told),
+        Count::Refused(refusal) => judged(rt, numbers_of(refusal), told),
     }
-    text(b"\n");
+    text(rt, b"\n");
 }
 
 // Three segments come in this order, or two.
-fn order(first: &[u8], second: &[u8], third: &[u8]) {
+fn order(rt: &impl Print, first: &[u8], second: &[u8], third: &[u8]) {
     let mut buf = [b'x'; ROOM];
     let mut other = [b'-'; ROOM];
     let mut words = [0u32; WORDS];
-    let mut s = begun(64, &mut words);
-    s = comes(s, first, &mut buf, &mut words, &mut other);
-    s = comes(s, second, &mut buf, &mut words, &mut other);
-    s = comes(s, third, &mut buf, &mut words, &mut other);
-    taken(s, &mut buf, &words, &mut other);
+    let mut s = begun(rt, 64, &mut words);
+    s = comes(rt, s, first, &mut buf, &mut words, &mut other);
+    s = comes(rt, s, second, &mut buf, &mut words, &mut other);
+    s = comes(rt, s, third, &mut buf, &mut words, &mut other);
+    taken(rt, s, &mut buf, &words, &mut other);
 }
 
-fn main() {
+fn main(rt: HostRuntime) {
     // Six orders, one report.
-    order(&FRONT, &MIDDLE, &BACK);
-    order(&FRONT, &BACK, &MIDDLE);
-    order(&MIDDLE, &FRONT, &BACK);
-    order(&MIDDLE, &BACK, &FRONT);
-    order(&BACK, &FRONT, &MIDDLE);
-    order(&BACK, &MIDDLE, &FRONT);
+    order(&rt, &FRONT, &MIDDLE, &BACK);
+    order(&rt, &FRONT, &BACK, &MIDDLE);
+    order(&rt, &MIDDLE, &FRONT, &BACK);
+    order(&rt, &MIDDLE, &BACK, &FRONT);
+    order(&rt, &BACK, &FRONT, &MIDDLE);
+    order(&rt, &BACK, &MIDDLE, &FRONT);
     // A gap: complete in neither order.
-    order(&FRONT, &LATER, &LAST);
-    order(&LAST, &FRONT, &LATER);
+    order(&rt, &FRONT, &LATER, &LAST);
+    order(&rt, &LAST, &FRONT, &LATER);
     // Where one is empty, or two overlap, it does matter.
-    order(&EMPTY, &ALONE, b"");
-    order(&ALONE, &EMPTY, b"");
-    order(&FRONT, &WHOLE, b"");
-    order(&WHOLE, &FRONT, b"");
+    order(&rt, &EMPTY, &ALONE, b"");
+    order(&rt, &ALONE, &EMPTY, b"");
+    order(&rt, &FRONT, &WHOLE, b"");
+    order(&rt, &WHOLE, &FRONT, b"");
 }

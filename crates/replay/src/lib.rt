@@ -8,6 +8,6 @@ mod record;
 mod sum;
 
 pub use counts::{count, earlier};
-pub use file::next_record;
+pub use file::{next_record, open_first};
 pub use record::{argument, byte, check, input, number, recorded, same};
 pub use sum::{add_byte, add_bytes, add_number};

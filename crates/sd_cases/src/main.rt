@@ -11,34 +11,37 @@ mod cases; // cases.rt: the bytes of the cases
 mod parts; // parts.rt: what is told of a payload's parts
 
 // A configuration string.
-fn string(name: &[u8], s: &[u8]) {
+fn string(rt: &impl Print, name: &[u8], s: &[u8]) {
     let verdict = config_string::check_string(s);
     let said = match verdict {
         Verdict::Passed => none(0),
         Verdict::Refused(refusal) => numbers_of(refusal),
     };
-    answer(name, said, hub::options::viaductle_string(s));
+    answer(rt, name, said, hub::options::viaductle_string(s));
 }
 
 // The cases of sizes: of the whole, and of its parts.
-fn sizes() {
-    payload(b"payload, 12 zero bytes", &[0; 12], PLAIN);
-    payload(b"payload, 11 zero bytes", &[0; 11], PLAIN);
-    payload(b"payload, 13 zero bytes", &[0; 13], PLAIN);
+fn sizes(rt: &impl Print) {
+    payload(rt, b"payload, 12 zero bytes", &[0; 12], PLAIN);
+    payload(rt, b"payload, 11 zero bytes", &[0; 11], PLAIN);
+    payload(rt, b"payload, 13 zero bytes", &[0; 13], PLAIN);
 }
 
-fn sizes_of_parts() {
+fn sizes_of_parts(rt: &impl Print) {
     payload(
+        rt,
         b"payload, 12 bytes with entries length 17",
         &cases::twelve(17),
         PLAIN,
     );
     payload(
+        rt,
         b"payload, 12 bytes with entries length 16",
         &cases::twelve(16),
         PLAIN,
     );
     payload(
+        rt,
         b"payload, 28 bytes with entries length 16 and options length 1388",
         &cases::long_options(),
         PLAIN,
@@ -46,15 +49,17 @@ fn sizes_of_parts() {
 }
 
 // The cases of a whole payload.
-fn whole() {
-    payload(b"payload, the rules' whole one", &cases::WHOLE, PLAIN);
-    parts::parts(&cases::WHOLE);
+fn whole(rt: &impl Print) {
+    payload(rt, b"payload, the rules' whole one", &cases::WHOLE, PLAIN);
+    parts::parts(rt, &cases::WHOLE);
     payload(
+        rt,
         b"the same with run 1 from 1",
         &cases::whole_with(1, 0x10),
         PLAIN,
     );
     payload(
+        rt,
         b"the same with empty runs, run 1 from 200",
         &cases::whole_with(200, 0),
         PLAIN,
@@ -62,42 +67,43 @@ fn whole() {
 }
 
 // The cases of unknown options.
-fn unknown() {
-    payload(b"option 00017780", &cases::unknown(0x80), PLAIN);
-    payload(b"option 00017700", &cases::unknown(0), PLAIN);
+fn unknown(rt: &impl Print) {
+    payload(rt, b"option 00017780", &cases::unknown(0x80), PLAIN);
+    payload(rt, b"option 00017700", &cases::unknown(0), PLAIN);
     payload(
+        rt,
         b"option 00017700 when discarding",
         &cases::unknown(0),
         DISCARDING,
     );
-    payload(b"347 options of four bytes", &cases::many(), PLAIN);
+    payload(rt, b"347 options of four bytes", &cases::many(), PLAIN);
 }
 
 // The cases of configuration strings: where they end, their keys, and what does not fit.
-fn ends() {
-    string(b"string of no bytes", b"");
-    string(b"string 00", b"\x00");
-    string(b"string 0000", b"\x00\x00");
+fn ends(rt: &impl Print) {
+    string(rt, b"string of no bytes", b"");
+    string(rt, b"string 00", b"\x00");
+    string(rt, b"string 0000", b"\x00\x00");
 }
 
-fn keys() {
-    string(b"string 013D00", b"\x01\x3d\x00");
-    string(b"string 012000", b"\x01\x20\x00");
-    string(b"string 0241FF00", b"\x02\x41\xff\x00");
-    string(b"string 03413DFF00", b"\x03\x41\x3d\xff\x00");
+fn keys(rt: &impl Print) {
+    string(rt, b"string 013D00", b"\x01\x3d\x00");
+    string(rt, b"string 012000", b"\x01\x20\x00");
+    string(rt, b"string 0241FF00", b"\x02\x41\xff\x00");
+    string(rt, b"string 03413DFF00", b"\x03\x41\x3d\xff\x00");
 }
 
-fn lengths() {
-    string(b"string 054100", b"\x05\x41\x00");
-    string(b"string 0141", b"\x01\x41");
+fn lengths(rt: &impl Print) {
+    string(rt, b"string 054100", b"\x05\x41\x00");
+    string(rt, b"string 0141", b"\x01\x41");
 }
 
-fn main() {
-    sizes();
-    sizes_of_parts();
-    whole();
-    unknown();
-    ends();
-    keys();
-    lengths();
+fn main(rt: HostRuntime) {
+    sizes(&rt);
+    sizes_of_parts(&rt);
+    whole(&rt);
+    unknown(&rt);
+    ends(&rt);
+    keys(&rt);
+    lengths(&rt);
 }

@@ -9,18 +9,18 @@ use sd_index::RunCursor;
 use words::told;
 
 // A TTL of 0 takes back what an entry's type says.
-fn by_ttl(ttl: u32, over: &[u8], on: &[u8]) {
+fn by_ttl(rt: &impl Print, ttl: u32, over: &[u8], on: &[u8]) {
     if ttl == 0 {
-        text(over);
+        text(rt, over);
     } else {
-        text(on);
+        text(rt, on);
     }
 }
 
-fn service_word(entry_type: SdServiceEntryType, ttl: u32) {
+fn service_word(rt: &impl Print, entry_type: SdServiceEntryType, ttl: u32) {
     match entry_type {
-        SdServiceEntryType::FindService => text(b"find service "),
-        SdServiceEntryType::OfferService => by_ttl(
+        SdServiceEntryType::FindService => text(rt, b"find service "),
+        SdServiceEntryType::OfferService => by_ttl(rt,
             ttl,
             b"stop offer of service ",
             b"offer of service ",
@@ -28,14 +28,14 @@ fn service_word(entry_type: SdServiceEntryType, ttl: u32) {
     }
 }
 
-fn eventgroup_word(entry_type: EventGroupEntryType, ttl: u32) {
+fn eventgroup_word(rt: &impl Print, entry_type: EventGroupEntryType, ttl: u32) {
     match entry_type {
-        EventGroupEntryType::SubscribeOrStop => by_ttl(
+        EventGroupEntryType::SubscribeOrStop => by_ttl(rt,
             ttl,
             b"stop subscription to service ",
             b"subscription to service ",
         ),
-        EventGroupEntryType::SubscribeAckOrNack => by_ttl(
+        EventGroupEntryType::SubscribeAckOrNack => by_ttl(rt,
             ttl,
             b"subscription refused by service ",
             b"subscription acknowledged by service ",
@@ -43,8 +43,8 @@ fn eventgroup_word(entry_type: EventGroupEntryType, ttl: u32) {
     }
 }
 
-fn head_words(head: EntryHead) {
-    told(
+fn head_words(rt: &impl Print, head: EntryHead) {
+    told(rt,
         b"%04, instance %14, major version %2d, TTL %3d",
         [
             head.service_id as u64,
@@ -56,48 +56,48 @@ fn head_words(head: EntryHead) {
     );
 }
 
-fn group_words(group: EventGroup) {
-    told(
+fn group_words(rt: &impl Print, group: EventGroup) {
+    told(rt,
         b", eventgroup %04, counter %1d",
         [group.eventgroup_id as u64, group.counter as u64, 0, 0, 0],
     );
-    yes_or_no(b", initial data requested ", group.initial_data_requested);
+    yes_or_no(rt, b", initial data requested ", group.initial_data_requested);
 }
 
-fn entry_words(entry: SdEntry) {
+fn entry_words(rt: &impl Print, entry: SdEntry) {
     match entry {
         SdEntry::Service {
             entry_type,
             head,
             minor_version,
         } => {
-            service_word(entry_type, head.ttl);
-            head_words(head);
-            named(b", minor version ", minor_version as usize);
+            service_word(rt, entry_type, head.ttl);
+            head_words(rt, head);
+            named(rt, b", minor version ", minor_version as usize);
         }
         SdEntry::Eventgroup {
             entry_type,
             head,
             group,
         } => {
-            eventgroup_word(entry_type, head.ttl);
-            head_words(head);
-            group_words(group);
+            eventgroup_word(rt, entry_type, head.ttl);
+            head_words(rt, head);
+            group_words(rt, group);
         }
     }
 }
 
 // One of an entry's runs, on a line; nothing of an empty one.
-fn one_run(name: &[u8], start: u8, count: u8, options: &[u8], table: &[u16], total: usize) {
+fn one_run(rt: &impl Print, name: &[u8], start: u8, count: u8, options: &[u8], table: &[u16], total: usize) {
     if count != 0 {
-        text(name);
-        run(options, table, total, RunCursor::new(start, count));
-        text(b"\n");
+        text(rt, name);
+        run(rt, options, table, total, RunCursor::new(start, count));
+        text(rt, b"\n");
     }
 }
 
-fn runs(head: EntryHead, options: &[u8], table: &[u16], total: usize) {
-    one_run(
+fn runs(rt: &impl Print, head: EntryHead, options: &[u8], table: &[u16], total: usize) {
+    one_run(rt,
         b"  run 1",
         head.start_index_options_1,
         head.number_of_options_1,
@@ -105,7 +105,7 @@ fn runs(head: EntryHead, options: &[u8], table: &[u16], total: usize) {
         table,
         total,
     );
-    one_run(
+    one_run(rt,
         b"  run 2",
         head.start_index_options_2,
         head.number_of_options_2,
@@ -116,16 +116,16 @@ fn runs(head: EntryHead, options: &[u8], table: &[u16], total: usize) {
 }
 
 // An entry with its number and its runs.
-fn listed(place: usize, entry: SdEntry, options: &[u8], table: &[u16], total: usize) {
-    named(b"entry ", place);
-    text(b": ");
-    entry_words(entry);
-    text(b"\n");
-    runs(entry.head(), options, table, total);
+fn listed(rt: &impl Print, place: usize, entry: SdEntry, options: &[u8], table: &[u16], total: usize) {
+    named(rt, b"entry ", place);
+    text(rt, b": ");
+    entry_words(rt, entry);
+    text(rt, b"\n");
+    runs(rt, entry.head(), options, table, total);
 }
 
 // All entries, by the cursor; `total` is how many options there are.
-pub fn all(entries: &[u8], options: &[u8], table: &[u16], total: usize) {
+pub fn all(rt: &impl Print, entries: &[u8], options: &[u8], table: &[u16], total: usize) {
     let mut cursor = EntryCursor::new();
     let mut turns: usize = 0;
     while turns < 100 {
@@ -135,7 +135,7 @@ pub fn all(entries: &[u8], options: &[u8], table: &[u16], total: usize) {
         let EntryAnswer::Good(entry) = answer else {
             return;
         };
-        listed(turns, entry, options, table, total);
+        listed(rt, turns, entry, options, table, total);
         turns += 1;
     }
 }

@@ -2,8 +2,10 @@
 // compare/FORMAT.md), and prints how many records agree, by what was read and by answer, and the first that does not.
 #![tactic(auto)]
 
+use intake::fill;
 use print::{line, text};
-use replay::earlier;
+use replay::{earlier, open_first};
+use std::io::Read;
 
 mod answer; // answer.rt: answers as numbers, and in a sum
 mod entries; // entries.rt: entries in a sum
@@ -12,8 +14,13 @@ mod step; // step.rt: one record
 mod tally; // tally.rt: what agreed, counted and printed
 
 // The next record of the file: whether all agrees; it is counted if so.
-fn next_agrees(fd: i32, record: &mut [u8], table: &mut [u16], counts: &mut [u32]) -> bool {
-    let n = replay::next_record(fd, record);
+fn next_agrees(
+    from: &mut impl Read,
+    record: &mut [u8],
+    table: &mut [u16],
+    counts: &mut [u32],
+) -> bool {
+    let n = replay::next_record(from, record);
     let bytes = &record[..n];
     let agrees = step::agrees(bytes, table);
     if agrees {
@@ -24,7 +31,7 @@ fn next_agrees(fd: i32, record: &mut [u8], table: &mut [u16], counts: &mut [u32]
 
 // All records of the file; answers which is the first that does not agree, counted from 1, or 0.
 fn replay_all(
-    fd: i32,
+    from: &mut impl Read,
     total: u32,
     record: &mut [u8],
     table: &mut [u16],
@@ -33,7 +40,7 @@ fn replay_all(
     let mut first: u32 = 0;
     let mut i: u32 = 0;
     while i < total {
-        let agrees = next_agrees(fd, record, table, counts);
+        let agrees = next_agrees(from, record, table, counts);
         i += 1;
         first = earlier(first, agrees, i);
     }
@@ -41,37 +48,32 @@ fn replay_all(
 }
 
 // Replays a file that is open, and prints what came of it.
-fn report(fd: i32) {
+fn report(rt: &impl Print, from: &mut impl Read) {
     let mut name = [0u8; 8];
-    io::read_full(fd, &mut name);
-    if !check::same(&name, b"VIADSD01") {
-        text(b"not a list of recorded payloads\n");
+    fill(from, &mut name);
+    if name != *b"VIADSD01" {
+        text(rt, b"not a list of recorded payloads\n");
         return;
     }
     let mut head = [0u8; 8];
-    io::read_full(fd, &mut head);
+    fill(from, &mut head);
     let total = replay::number(&head, 0);
-    line(b"records", total);
+    line(rt, b"records", total);
     let mut record = [0u8; 2048];
     let mut table = [0u16; sd_index::SLOTS];
     let mut counts = [0u32; tally::PLACES];
-    let first = replay_all(fd, total, &mut record, &mut table, &mut counts);
-    tally::print(&counts);
+    let first = replay_all(from, total, &mut record, &mut table, &mut counts);
+    tally::print(rt, &counts);
     if first == 0 {
-        text(b"none that does not\n");
+        text(rt, b"none that does not\n");
     } else {
-        line(b"the first that does not is record", first);
+        line(rt, b"the first that does not is record", first);
     }
 }
 
-fn main() {
-    let mut path = io::buffer();
-    let n = os::arg(1, &mut path);
-    let fd = os::open_read(&path[..n]);
-    if fd < 0 {
-        os::fail(&path[..n]);
+fn main(rt: HostRuntime) {
+    let Some(mut file) = open_first(&rt, &rt.stderr()) else {
         return;
-    }
-    report(fd);
-    libc::close(fd);
+    };
+    report(&rt, &mut file);
 }

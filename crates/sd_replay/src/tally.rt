@@ -47,72 +47,82 @@ fn at(counts: &[u32], place: u8) -> u32 {
 }
 
 // Prints what was read.
-fn print_kinds(counts: &[u32]) {
-    line(b"payloads", at(counts, 31));
-    line(b"messages with SD header", at(counts, 32));
-    line(b"options parts for the index", at(counts, 33));
-    line(b"entries", at(counts, 34));
-    line(b"options", at(counts, 35));
-    line(b"configuration strings", at(counts, 36));
-    line(b"lookups", at(counts, 37));
-    line(b"runs", at(counts, 38));
+fn print_kinds(rt: &impl Print, counts: &[u32]) {
+    line(rt, b"payloads", at(counts, 31));
+    line(rt, b"messages with SD header", at(counts, 32));
+    line(rt, b"options parts for the index", at(counts, 33));
+    line(rt, b"entries", at(counts, 34));
+    line(rt, b"options", at(counts, 35));
+    line(rt, b"configuration strings", at(counts, 36));
+    line(rt, b"lookups", at(counts, 37));
+    line(rt, b"runs", at(counts, 38));
 }
 
 // Prints the refusals of a configuration string.
-fn print_strings(counts: &[u32]) {
-    line(b"refused with 9, missing terminator", at(counts, 41));
+fn print_strings(rt: &impl Print, counts: &[u32]) {
+    line(rt, b"refused with 9, missing terminator", at(counts, 41));
     line(
+        rt,
         b"refused with 9, item longer than what is left",
         at(counts, 42),
     );
     line(
+        rt,
         b"refused with 9, data behind the terminator",
         at(counts, 43),
     );
-    line(b"refused with 9, empty key", at(counts, 44));
-    line(b"refused with 9, invalid key byte", at(counts, 45));
-    line(b"refused with 9, key of spaces only", at(counts, 46));
+    line(rt, b"refused with 9, empty key", at(counts, 44));
+    line(rt, b"refused with 9, invalid key byte", at(counts, 45));
+    line(rt, b"refused with 9, key of spaces only", at(counts, 46));
 }
 
 // Prints what was accepted, and the refusals of a payload's sizes.
-fn print_sizes(counts: &[u32]) {
-    line(b"accepted", at(counts, 0));
-    line(b"refused with 1, unexpected end", at(counts, 1));
-    line(b"refused with 2, entries length too large", at(counts, 2));
-    line(b"refused with 3, entries length uneven", at(counts, 3));
-    line(b"refused with 4, options length too large", at(counts, 4));
-    line(b"refused with 5, payload too large", at(counts, 5));
-    line(b"refused with 6, length mismatch", at(counts, 6));
+fn print_sizes(rt: &impl Print, counts: &[u32]) {
+    line(rt, b"accepted", at(counts, 0));
+    line(rt, b"refused with 1, unexpected end", at(counts, 1));
+    line(
+        rt,
+        b"refused with 2, entries length too large",
+        at(counts, 2),
+    );
+    line(rt, b"refused with 3, entries length uneven", at(counts, 3));
+    line(
+        rt,
+        b"refused with 4, options length too large",
+        at(counts, 4),
+    );
+    line(rt, b"refused with 5, payload too large", at(counts, 5));
+    line(rt, b"refused with 6, length mismatch", at(counts, 6));
 }
 
 // Prints the refusals of options, entries and the index.
-fn print_parts(counts: &[u32]) {
-    line(b"refused with 7, option length", at(counts, 7));
-    line(b"refused with 8, option length zero", at(counts, 8));
-    print_strings(counts);
-    line(b"refused with 10, unknown option", at(counts, 10));
-    line(b"refused with 11, unknown entry", at(counts, 11));
-    line(b"refused with 12, run out of bounds", at(counts, 12));
-    line(b"refused with 13, index too large", at(counts, 13));
+fn print_parts(rt: &impl Print, counts: &[u32]) {
+    line(rt, b"refused with 7, option length", at(counts, 7));
+    line(rt, b"refused with 8, option length zero", at(counts, 8));
+    print_strings(rt, counts);
+    line(rt, b"refused with 10, unknown option", at(counts, 10));
+    line(rt, b"refused with 11, unknown entry", at(counts, 11));
+    line(rt, b"refused with 12, run out of bounds", at(counts, 12));
+    line(rt, b"refused with 13, index too large", at(counts, 13));
 }
 
 // Prints the refusals of a message's header.
-fn print_header(counts: &[u32]) {
-    line(b"refused with 14, message id", at(counts, 14));
-    line(b"refused with 15, client", at(counts, 15));
-    line(b"refused with 16, session 0", at(counts, 16));
-    line(b"refused with 17, interface version", at(counts, 17));
-    line(b"refused with 18, message type", at(counts, 18));
-    line(b"refused with 19, return code", at(counts, 19));
+fn print_header(rt: &impl Print, counts: &[u32]) {
+    line(rt, b"refused with 14, message id", at(counts, 14));
+    line(rt, b"refused with 15, client", at(counts, 15));
+    line(rt, b"refused with 16, session 0", at(counts, 16));
+    line(rt, b"refused with 17, interface version", at(counts, 17));
+    line(rt, b"refused with 18, message type", at(counts, 18));
+    line(rt, b"refused with 19, return code", at(counts, 19));
 }
 
 // Prints all counts.
-pub(crate) fn print(counts: &[u32]) {
-    print_kinds(counts);
-    print_sizes(counts);
-    print_parts(counts);
-    print_header(counts);
-    line(b"refused with 20, nothing there", at(counts, 20));
-    line(b"refused with 23, transport protocol", at(counts, 23));
-    line(b"records that agree in all", at(counts, RECORDS));
+pub(crate) fn print(rt: &impl Print, counts: &[u32]) {
+    print_kinds(rt, counts);
+    print_sizes(rt, counts);
+    print_parts(rt, counts);
+    print_header(rt, counts);
+    line(rt, b"refused with 20, nothing there", at(counts, 20));
+    line(rt, b"refused with 23, transport protocol", at(counts, 23));
+    line(rt, b"records that agree in all", at(counts, RECORDS));
 }

@@ -1,8 +1,7 @@
 // The byte at which an option was refused, among its neighbours: a line below the refusal.
 ghost use Rattle.std.specs.Prelude.{◌≤◌, length};
 
-use libc::STDOUT_FILENO;
-use print::{named, text};
+use print::{hexadecimal, named, text};
 use refusal::{Count, Refusal};
 use sd_payload::PayloadAnswer;
 use words::told;
@@ -63,69 +62,70 @@ fn options_start(payload: &[u8]) -> usize
     OPTIONS_START + entries_len
 }
 
-fn hex(b: u8) {
-    io::print_hex(STDOUT_FILENO, b as u64, 2);
+fn hex(rt: &impl Print, b: u8) {
+    hexadecimal(rt, b as u64, 2);
 }
 
 // Each byte behind a space.
-fn row(s: &[u8]) {
+fn row(rt: &impl Print, s: &[u8]) {
     let mut i: usize = 0;
     while i < s.len() {
-        text(b" ");
-        hex(s[i]);
+        text(rt, b" ");
+        hex(rt, s[i]);
         i += 1;
     }
 }
 
 // The last of the bytes before the one at fault.
-fn before(s: &[u8]) {
+fn before(rt: &impl Print, s: &[u8]) {
     if s.len() <= BEFORE {
-        row(s);
+        row(rt, s);
         return;
     }
-    text(b" ..");
+    text(rt, b" ..");
     let from = s.len() - BEFORE;
-    row(&s[from..]);
+    row(rt, &s[from..]);
 }
 
 // The first of the bytes behind it.
-fn behind(s: &[u8]) {
+fn behind(rt: &impl Print, s: &[u8]) {
     if s.len() <= BEHIND {
-        row(s);
+        row(rt, s);
         return;
     }
-    row(&s[0..BEHIND]);
-    text(b" ..");
+    row(rt, &s[0..BEHIND]);
+    text(rt, b" ..");
 }
 
 // The byte at fault, which is the first of these, and those behind it; the end where there is none.
-fn marked(s: &[u8]) {
+fn marked(rt: &impl Print, s: &[u8]) {
     if s.len() == 0 {
-        text(b" [end]");
+        text(rt, b" [end]");
         return;
     }
-    text(b" [");
-    hex(s[0]);
-    text(b"]");
-    behind(&s[1..]);
+    text(rt, b" [");
+    hex(rt, s[0]);
+    text(rt, b"]");
+    behind(rt, &s[1..]);
 }
 
 // A place among the options, the payload's bytes and, where that is another, the message's.
-fn counted(of_options: usize, of_payload: usize, of_message: usize) {
+fn counted(rt: &impl Print, of_options: usize, of_payload: usize, of_message: usize) {
     told(
+        rt,
         b"  byte %0d of the options, byte %1d of the payload",
         [of_options as u64, of_payload as u64, 0, 0, 0],
     );
     if of_message != of_payload {
-        named(b", byte ", of_message);
-        text(b" of the message");
+        named(rt, b", byte ", of_message);
+        text(rt, b" of the message");
     }
-    text(b":");
+    text(rt, b":");
 }
 
 // The line, of a payload that stands in these bytes behind `ahead` others, a message's header or none. There is no line where the answer tells no
 // place, or one that the options do not have.
-pub(crate) fn shown(answer: PayloadAnswer, bytes: &[u8], ahead: usize) {
+pub(crate) fn shown(rt: &impl Print, answer: PayloadAnswer, bytes: &[u8], ahead: usize) {
     let place = place_of(answer);
     let Place::At(at) = place else {
         return;
@@ -139,8 +139,8 @@ pub(crate) fn shown(answer: PayloadAnswer, bytes: &[u8], ahead: usize) {
     if options.len() < at {
         return;
     }
-    counted(at, start + at, ahead + (start + at));
-    before(&options[0..at]);
-    marked(&options[at..]);
-    text(b"\n");
+    counted(rt, at, start + at, ahead + (start + at));
+    before(rt, &options[0..at]);
+    marked(rt, &options[at..]);
+    text(rt, b"\n");
 }

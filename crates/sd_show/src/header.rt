@@ -11,10 +11,11 @@ fn wide(b: u8) -> u64 {
 }
 
 // Its first twelve bytes.
-fn ids(m: &[u8])
+fn ids(rt: &impl Print, m: &[u8])
     requires { 16 ≤ length m.now }
 {
     told(
+        rt,
         b"header: message id %08, length %1d, client %24, session %34",
         [
             be32(m[0], m[1], m[2], m[3]) as u64,
@@ -27,22 +28,23 @@ fn ids(m: &[u8])
 }
 
 // Its last four.
-fn codes(m: &[u8])
+fn codes(rt: &impl Print, m: &[u8])
     requires { 16 ≤ length m.now }
 {
     told(
+        rt,
         b", protocol version %0d, interface version %1d, type %22, return code %32\n",
         [wide(m[12]), wide(m[13]), wide(m[14]), wide(m[15]), 0],
     );
 }
 
 // The header's line; none where the header is not whole.
-pub(crate) fn header(message: &[u8]) {
+pub(crate) fn header(rt: &impl Print, message: &[u8]) {
     if message.len() < HEADER_LEN {
         return;
     }
-    ids(message);
-    codes(message);
+    ids(rt, message);
+    codes(rt, message);
 }
 
 // The payload: the bytes behind the header; none where the header is not whole.

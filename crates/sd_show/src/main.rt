@@ -3,8 +3,10 @@
 // takes files, hex and many at once.
 #![tactic(auto)]
 
+use intake::fill;
 use print::text;
 use sd_option::Settings;
+use std::env::Env;
 
 mod fault; // fault.rt: the byte at which an option was refused, among its neighbours
 mod header; // header.rt: a message's header
@@ -21,11 +23,11 @@ struct Asked {
 
 // What is asked with a word more.
 fn with_word(mut asked: Asked, word: &[u8]) -> Asked {
-    if check::same(word, b"--message") {
+    if word == b"--message".as_slice() {
         asked.message = true;
-    } else if check::same(word, b"--discard") {
+    } else if word == b"--discard".as_slice() {
         asked.discard = true;
-    } else if check::same(word, b"--strict") {
+    } else if word == b"--strict".as_slice() {
         asked.strict = true;
     } else {
         asked.unknown = true;
@@ -33,58 +35,58 @@ fn with_word(mut asked: Asked, word: &[u8]) -> Asked {
     asked
 }
 
-// What is asked with the word at a place more.
-fn with_argument(asked: Asked, place: usize) -> Asked {
-    let mut word = io::buffer();
-    let n = os::arg(place, &mut word);
-    with_word(asked, &word[..n])
-}
-
-// What is asked by all words.
-fn by_arguments() -> Asked {
+// What is asked by all words: those behind the program's own name. One that is longer than the room for it is none of the three.
+fn by_arguments(rt: &impl Env) -> Asked {
     let mut asked = Asked {
         message: false,
         discard: false,
         strict: false,
         unknown: false,
     };
-    let count = os::arg_count();
-    let mut place: usize = 1;
-    while place < count {
-        asked = with_argument(asked, place);
-        place += 1;
+    let mut word = [0u8; 4096];
+    for place in 1..usize::MAX {
+        let Some(n) = intake::word(rt, place, &mut word) else {
+            return asked;
+        };
+        asked = with_word(asked, &word[..n]);
     }
     asked
 }
 
-fn show(asked: Asked, bytes: &[u8]) {
+fn show(rt: &impl Print, asked: Asked, bytes: &[u8]) {
     let settings = Settings {
         discard_unknown_option: asked.discard,
         strict: asked.strict,
     };
     if asked.message {
-        payload::show_message(settings, bytes);
+        payload::show_message(rt, settings, bytes);
     } else {
-        payload::show(settings, bytes);
+        payload::show(rt, settings, bytes);
     }
 }
 
 // What comes on standard input: fewer bytes than there is room for, so that none is left out.
-fn show_input(asked: Asked) {
-    let mut bytes = io::large_buffer();
-    let n = io::read_full(libc::STDIN_FILENO, &mut bytes);
+fn show_input(rt: &(impl Print + Input), asked: Asked) {
+    let mut bytes = [0u8; 65536];
+    let n = fill(&mut rt.reader(), &mut bytes);
     if 65536 <= n {
-        text(b"not shown: more than 65535 bytes, and a message has 1416 at most\n");
+        text(
+            rt,
+            b"not shown: more than 65535 bytes, and a message has 1416 at most\n",
+        );
         return;
     }
-    show(asked, &bytes[..n]);
+    show(rt, asked, &bytes[..n]);
 }
 
-fn main() {
-    let asked = by_arguments();
+fn main(rt: HostRuntime) {
+    let asked = by_arguments(&rt);
     if asked.unknown {
-        text(b"not shown: the words are --message, --discard and --strict\n");
+        text(
+            &rt,
+            b"not shown: the words are --message, --discard and --strict\n",
+        );
         return;
     }
-    show_input(asked);
+    show_input(&rt, asked);
 }

@@ -82,14 +82,14 @@ fn segment(piece: Piece) -> [u8; 36]
 }
 
 // What came, in words.
-fn describe(piece: Piece) {
-    number(size(piece) as usize);
-    text(b" bytes at ");
-    number(piece.offset as usize);
+fn describe(rt: &impl Print, piece: Piece) {
+    number(rt, size(piece) as usize);
+    text(rt, b" bytes at ");
+    number(rt, piece.offset as usize);
     if piece.more {
-        text(b", more follow: ");
+        text(rt, b", more follow: ");
     } else {
-        text(b", final: ");
+        text(rt, b", final: ");
     }
 }
 
@@ -134,7 +134,7 @@ pub fn consumed(
 }
 
 // One segment comes; prints it with the answer.
-pub fn answered(
+pub fn answered(rt: &impl Print, 
     s: TpStream,
     buf: &mut [u8],
     words: &mut [u32],
@@ -143,16 +143,16 @@ pub fn answered(
 ) -> TpStream
     ensures { Comes piece s buf.old words.old other.old result buf.new words.new other.new }
 {
-    describe(piece);
+    describe(rt, piece);
     let came = consumed(s, buf, words, other, piece);
     let said = came.said;
     let told = came.told;
-    judged(said, told);
+    judged(rt, said, told);
     came.stream
 }
 
 // The same, and more comes on the line.
-pub fn comes(
+pub fn comes(rt: &impl Print, 
     s: TpStream,
     buf: &mut [u8],
     words: &mut [u32],
@@ -161,8 +161,8 @@ pub fn comes(
 ) -> TpStream
     ensures { Comes piece s buf.old words.old other.old result buf.new words.new other.new }
 {
-    let stream = answered(s, buf, words, other, piece);
-    text(b"; ");
+    let stream = answered(rt, s, buf, words, other, piece);
+    text(rt, b"; ");
     stream
 }
 
@@ -175,7 +175,7 @@ fn length_field(report: &[u8]) -> u32 {
 }
 
 // The message is taken; prints what it has, and ends the line.
-pub fn taken(s: TpStream, buf: &mut [u8], words: &[u32], other: &mut [u8])
+pub fn taken(rt: &impl Print, s: TpStream, buf: &mut [u8], words: &[u32], other: &mut [u8])
     ensures { Takes s buf.old words.now other.old buf.new other.new }
 {
     let answer = tp_stream::take(s, buf);
@@ -183,27 +183,27 @@ pub fn taken(s: TpStream, buf: &mut [u8], words: &[u32], other: &mut [u8])
     match answer {
         Count::Good(_) => {
             let report = tp_stream::report(s, buf);
-            text(b"complete, a report of ");
-            number(report.len());
-            text(b" bytes with length field ");
-            number(length_field(report) as usize);
-            exported(refusal::one(0, report.len() as u64), told);
+            text(rt, b"complete, a report of ");
+            number(rt, report.len());
+            text(rt, b" bytes with length field ");
+            number(rt, length_field(report) as usize);
+            exported(rt, refusal::one(0, report.len() as u64), told);
         }
         Count::Refused(refusal) => {
-            text(b"taking: ");
-            judged(numbers_of(refusal), told);
+            text(rt, b"taking: ");
+            judged(rt, numbers_of(refusal), told);
         }
     }
-    text(b"\n");
+    text(rt, b"\n");
 }
 
 // A stream begins, and the exported one; prints its limit.
-pub fn begun(limit: u32, words: &mut [u32]) -> TpStream
+pub fn begun(rt: &impl Print, limit: u32, words: &mut [u32]) -> TpStream
     ensures { Begun limit words.old result words.new }
 {
-    text(b"limit ");
-    number(limit as usize);
-    text(b"; ");
+    text(rt, b"limit ");
+    number(rt, limit as usize);
+    text(rt, b"; ");
     viaductle_begin(words, limit);
     let step = tp_stream::begin(limit);
     step.stream

@@ -3,8 +3,10 @@
 // compared: the answer, the ranges, the end, the report, and how many segments were accepted.
 #![tactic(auto)]
 
+use intake::fill;
 use print::{line, text};
-use replay::earlier;
+use replay::{earlier, open_first};
+use std::io::Read;
 use tp_words::WORDS;
 
 mod state; // state.rt: whether a stream is as recorded
@@ -13,18 +15,18 @@ mod tally; // tally.rt: what agreed, counted and printed
 
 // The next record of the file: whether all agrees; it is counted if so.
 fn next_agrees(
-    fd: i32,
+    from: &mut impl Read,
     record: &mut [u8],
     words: &mut [u32],
     buffer: &mut [u8],
     counts: &mut [u32],
 ) -> bool {
-    let n = replay::next_record(fd, record);
+    let n = replay::next_record(from, record);
     let bytes = &record[..n];
     step::begun(bytes, words);
     // 16 plus the limit of the buffer's bytes are lent.
     let limit = state::word(words, 0) as usize;
-    let lent = io::count((16 + limit) as isize, buffer);
+    let lent = (16 + limit).min(buffer.len());
     let agrees = step::agrees(bytes, words, &mut buffer[..lent]);
     if agrees {
         tally::add(bytes, counts);
@@ -34,7 +36,7 @@ fn next_agrees(
 
 // All records of the file; answers which is the first that does not agree, counted from 1, or 0.
 fn replay_all(
-    fd: i32,
+    from: &mut impl Read,
     total: u32,
     record: &mut [u8],
     words: &mut [u32],
@@ -44,7 +46,7 @@ fn replay_all(
     let mut first: u32 = 0;
     let mut i: u32 = 0;
     while i < total {
-        let agrees = next_agrees(fd, record, words, buffer, counts);
+        let agrees = next_agrees(from, record, words, buffer, counts);
         i += 1;
         first = earlier(first, agrees, i);
     }
@@ -52,38 +54,40 @@ fn replay_all(
 }
 
 // Replays a file that is open, and prints what came of it.
-fn report(fd: i32) {
+fn report(rt: &impl Print, from: &mut impl Read) {
     let mut name = [0u8; 8];
-    io::read_full(fd, &mut name);
-    if !check::same(&name, b"VIADTP01") {
-        text(b"not a list of recorded segments\n");
+    fill(from, &mut name);
+    if name != *b"VIADTP01" {
+        text(rt, b"not a list of recorded segments\n");
         return;
     }
     let mut head = [0u8; 8];
-    io::read_full(fd, &mut head);
+    fill(from, &mut head);
     let total = replay::number(&head, 0);
-    line(b"records", total);
+    line(rt, b"records", total);
     let mut record = [0u8; 2048];
     let mut words = [0u32; WORDS];
     let mut buffer = [0u8; 4112];
     let mut counts = [0u32; tally::PLACES];
-    let first = replay_all(fd, total, &mut record, &mut words, &mut buffer, &mut counts);
-    tally::print(&counts);
+    let first = replay_all(
+        from,
+        total,
+        &mut record,
+        &mut words,
+        &mut buffer,
+        &mut counts,
+    );
+    tally::print(rt, &counts);
     if first == 0 {
-        text(b"none that does not\n");
+        text(rt, b"none that does not\n");
     } else {
-        line(b"the first that does not is record", first);
+        line(rt, b"the first that does not is record", first);
     }
 }
 
-fn main() {
-    let mut path = io::buffer();
-    let n = os::arg(1, &mut path);
-    let fd = os::open_read(&path[..n]);
-    if fd < 0 {
-        os::fail(&path[..n]);
+fn main(rt: HostRuntime) {
+    let Some(mut file) = open_first(&rt, &rt.stderr()) else {
         return;
-    }
-    report(fd);
-    libc::close(fd);
+    };
+    report(&rt, &mut file);
 }

@@ -53,18 +53,27 @@ fn at(counts: &[u32], place: u8) -> u32 {
 }
 
 // Prints all counts.
-pub(crate) fn print(counts: &[u32]) {
-    line(b"streams begun", at(counts, BEGUN));
-    line(b"segments accepted", at(counts, ACCEPTED));
-    line(b"segments refused with 30, not a segment", at(counts, 30));
-    line(b"segments refused with 31, too big", at(counts, 31));
-    line(b"segments refused with 32, not aligned", at(counts, 32));
-    line(b"segments refused with 33, conflicting end", at(counts, 33));
-    line(b"streams cleared", at(counts, CLEARED));
-    line(b"reports taken", at(counts, REPORTS));
+pub(crate) fn print(rt: &impl Print, counts: &[u32]) {
+    line(rt, b"streams begun", at(counts, BEGUN));
+    line(rt, b"segments accepted", at(counts, ACCEPTED));
     line(
+        rt,
+        b"segments refused with 30, not a segment",
+        at(counts, 30),
+    );
+    line(rt, b"segments refused with 31, too big", at(counts, 31));
+    line(rt, b"segments refused with 32, not aligned", at(counts, 32));
+    line(
+        rt,
+        b"segments refused with 33, conflicting end",
+        at(counts, 33),
+    );
+    line(rt, b"streams cleared", at(counts, CLEARED));
+    line(rt, b"reports taken", at(counts, REPORTS));
+    line(
+        rt,
         b"reports refused with 37, not complete",
         at(counts, NOT_COMPLETE),
     );
-    line(b"records that agree in all", at(counts, RECORDS));
+    line(rt, b"records that agree in all", at(counts, RECORDS));
 }

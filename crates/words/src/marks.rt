@@ -1,8 +1,7 @@
 // Text with numbers in it, on standard output.
 ghost use Rattle.std.specs.Prelude.{◌≤◌, length};
 
-use libc::STDOUT_FILENO;
-use print::{coded, text};
+use print::{coded, decimal, hexadecimal, text};
 use refusal::PLACES;
 
 // What begins a mark of three bytes in a text: it, the place of a value, and then d for decimal digits, x for hexadecimal ones, or how many
@@ -10,17 +9,17 @@ use refusal::PLACES;
 const MARK: u8 = b'%';
 
 // The value that a mark stands for.
-fn value(place: u8, form: u8, values: [u64; PLACES]) {
+fn value(rt: &impl Print, place: u8, form: u8, values: [u64; PLACES]) {
     let i = (place % 16) as usize;
     if i < PLACES {
         match form {
             b'd' => {
-                io::print_decimal(STDOUT_FILENO, values[i]);
+                decimal(rt, values[i]);
             }
             b'x' => {
-                io::print_hex(STDOUT_FILENO, values[i], 1);
+                hexadecimal(rt, values[i], 1);
             }
-            _ => coded(values[i], (form % 16) as usize),
+            _ => coded(rt, values[i], (form % 16) as usize),
         }
     }
 }
@@ -41,15 +40,15 @@ fn next_mark(s: &[u8], from: usize) -> usize
 }
 
 // A text with these values for its marks.
-pub fn told(s: &[u8], values: [u64; PLACES]) {
+pub fn told(rt: &impl Print, s: &[u8], values: [u64; PLACES]) {
     let mut at: usize = 0;
     while at < s.len() {
         let to = next_mark(s, at);
-        text(&s[at..to]);
+        text(rt, &s[at..to]);
         if s.len() - to < 3 {
             return;
         }
-        value(s[to + 1], s[to + 2], values);
+        value(rt, s[to + 1], s[to + 2], values);
         at = to + 3;
     }
 }

@@ -4,7 +4,6 @@ use lib.ListN.{length}
 use borrow.Author.Rules.{rules}
 use Rattle.sd_replay.proofs.replay_all.Given as goal
 
-
 abbrev pub invariant-loop-i : goal.invariant-loop-i
 invariant-loop-i l = (l.i ≤ l.total) × (length «record» ≡ length l.initial.record) × (length l.table ≡ length l.initial.table) × (length l.counts ≡ length l.initial.counts)
 

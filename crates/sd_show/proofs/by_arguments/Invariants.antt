@@ -2,7 +2,6 @@ use Prim.Native.Nat.{◌-◌, ◌≤◌}
 use borrow.Author.Rules.{rules}
 use Rattle.sd_show.proofs.by_arguments.Given as goal
 
-
 abbrev pub invariant-loop-place : goal.invariant-loop-place
 invariant-loop-place l = 1 ≤ l.place
 

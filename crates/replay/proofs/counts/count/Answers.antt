@@ -4,7 +4,6 @@ use mathlib.Core.Path.{sym, ap}
 use lib.ListN.{set, get_or}
 use lib.Seq.{set_out}
 use Rattle.replay.specs.Counts.{more}
-use borrow.Author.Rules.{rules}
 use Rattle.replay.proofs.counts.count.Goals as goal
 
 pub returns-then-i-counts : goal.returns-then-i-counts

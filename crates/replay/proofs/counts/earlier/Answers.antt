@@ -2,7 +2,6 @@
 -- Assumes nothing.
 use mathlib.Core.Path.{refl, sym}
 use borrow.Author.Tests.{eq-eqb, ne_eqb}
-use borrow.Author.Rules.{rules}
 use Rattle.replay.proofs.counts.earlier.Goals as goal
 
 pub returns-then-agrees : goal.returns-then-agrees

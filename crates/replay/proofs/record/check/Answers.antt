@@ -3,7 +3,6 @@
 use mathlib.Core.Path.{ap₂, ◌∙◌}
 use Prim.Native.Nat.{ℕ, ◌+◌}
 use Rattle.replay.specs.Records.{word_of}
-use borrow.Author.Rules.{rules}
 use Rattle.replay.proofs.record.check.Goals as goal
 
 pub returns : goal.returns

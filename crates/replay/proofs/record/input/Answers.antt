@@ -6,7 +6,6 @@ use native.Mathlib.Omega.{arith}
 use lib.ListN.{length, drop, drop_of_length-le}
 use Rattle.replay.specs.Records.{arguments, values, checks}
 use Rattle.numbers.proofs.ByteLaws.{take_rest}
-use borrow.Author.Rules.{rules}
 use Rattle.replay.proofs.record.input.Goals as goal
 
 pub returns-then-s-at : goal.returns-then-s-at

@@ -1,6 +1,5 @@
 -- `replay::record::recorded` meets its contract: each part is what its call gives. Assumes nothing.
 use Rattle.replay.proofs.Laws.{answer_made}
-use borrow.Author.Rules.{rules}
 use Rattle.replay.proofs.record.recorded.Goals as goal
 
 pub returns : goal.returns

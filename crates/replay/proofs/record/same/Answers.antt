@@ -3,7 +3,6 @@ use mathlib.Core.Path.{sym, ap, ◌∙◌}
 use mathlib.Core.Bool.{Bool, ◌&&◌}
 use borrow.Author.Tests.{eq-eqb, ne_eqb}
 use Rattle.replay.specs.Records.{equal}
-use borrow.Author.Rules.{rules}
 use Rattle.replay.proofs.record.same.Goals as goal
 
 pub returns-then-recorded-number : goal.returns-then-recorded-number

@@ -1,11 +1,9 @@
 -- `replay::record::same_values` meets its contract: what is left of the two is as equal as they are. Assumes nothing.
-use mathlib.Core.Path.{◌≡◌, refl, sym, ap, ◌∙◌}
-use Prim.Native.Nat.{◌≤◌, ◌-◌}
-use lib.ListN.{length, drop}
+use mathlib.Core.Path.{◌≡◌, refl, sym, ◌∙◌}
+use lib.ListN.{length}
 use native.Mathlib.Omega.{arith}
 use borrow.Author.Rules.{rules}
 use Rattle.refusal.specs.Said.{places}
-use Rattle.replay.specs.Records.{equal}
 use Rattle.replay.proofs.Laws.{equal_differs, equal_goes_on, equal_end}
 use Rattle.replay.proofs.record.same_values.Goals as goal
 

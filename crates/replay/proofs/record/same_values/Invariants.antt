@@ -1,13 +1,9 @@
-use mathlib.Core.Path.{◌≡◌, refl, sym, ap, ◌∙◌}
+use mathlib.Core.Path.{◌≡◌}
 use Prim.Native.Nat.{◌≤◌, ◌-◌}
-use lib.ListN.{length, drop}
-use native.Mathlib.Omega.{arith}
-use borrow.Author.Rules.{rules}
+use lib.ListN.{drop}
 use Rattle.refusal.specs.Said.{places}
 use Rattle.replay.specs.Records.{equal}
-use Rattle.replay.proofs.Laws.{equal_differs, equal_goes_on, equal_end}
 use Rattle.replay.proofs.record.same_values.Given as goal
-
 
 abbrev pub invariant-loop-i : goal.invariant-loop-i
 invariant-loop-i l = (l.i ≤ places) × (equal l.x l.y ≡ equal (drop l.i l.x) (drop l.i l.y))

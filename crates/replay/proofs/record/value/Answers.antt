@@ -4,7 +4,6 @@ use Prim.Native.Nat.{ℕ, ◌+◌}
 use native.Mathlib.Omega.{arith}
 use Rattle.replay.specs.Records.{word_of}
 use Rattle.replay.proofs.Laws.{value_there, value_past}
-use borrow.Author.Rules.{rules}
 use Rattle.replay.proofs.record.value.Goals as goal
 
 pub returns-then-place-byte : goal.returns-then-place-byte

@@ -2,7 +2,6 @@
 -- Assumes nothing.
 use Rattle.numbers.specs.Bytes.{be16, be32}
 use Rattle.replay.specs.Sums.{sum_bytes}
-use borrow.Author.Rules.{rules}
 use Rattle.replay.proofs.sum.add_number.Goals as goal
 
 pub returns : goal.returns

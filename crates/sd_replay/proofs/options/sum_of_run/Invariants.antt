@@ -2,7 +2,6 @@ use Prim.Native.Nat.{◌-◌, ◌≤◌}
 use borrow.Author.Rules.{rules}
 use Rattle.sd_replay.proofs.options.sum_of_run.Given as goal
 
-
 abbrev pub invariant-loop-turns : goal.invariant-loop-turns
 invariant-loop-turns l = l.turns ≤ l.left
 

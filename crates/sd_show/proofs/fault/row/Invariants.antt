@@ -3,7 +3,6 @@ use lib.ListN.{length}
 use borrow.Author.Rules.{rules}
 use Rattle.sd_show.proofs.fault.row.Given as goal
 
-
 abbrev pub invariant-loop-i : goal.invariant-loop-i
 invariant-loop-i l = i ≤ length l.s
 

@@ -1,0 +1,45 @@
+// What the programs read with: the words that they are started with, and bytes of a file or of standard input. Nothing is allocated: all is read into
+// buffers that the caller lends. A read that fails ends the input, as its end does.
+#![tactic(auto)]
+
+ghost use Rattle.std.specs.Prelude.{◌≡◌, ◌≤◌, length, take, IfSome};
+
+use std::env::{Env, FillError};
+use std::io::Read;
+
+// Puts the word at a place at the start of the buffer; answers how many bytes it has, 0 where it does not fit. There is none past the last word.
+pub fn word(rt: &impl Env, place: usize, buf: &mut [u8]) -> Option<usize>
+    ensures { IfSome result (λ n. n ≤ length buf.new) }
+{
+    match rt.arg(place, buf) {
+        Ok(n) => Some(n),
+        Err(FillError::TooLong) => Some(0),
+        Err(FillError::NotPresent) => None,
+    }
+}
+
+// Reads until the buffer is full or the input ends; answers how many bytes came, which stand in front.
+pub fn fill(from: &mut impl Read, buf: &mut [u8]) -> usize
+    ensures in_bounds { result ≤ length buf.new }
+    ensures front { result ≡ length (take result buf.new) }
+{
+    let mut done: usize = 0;
+    while done < buf.len() {
+        let n = some(from, &mut buf[done..]);
+        if n == 0 {
+            return done;
+        }
+        done += n;
+    }
+    done
+}
+
+// One read: how many bytes came, 0 at the end.
+fn some(from: &mut impl Read, buf: &mut [u8]) -> usize
+    ensures { result ≤ length buf.new }
+{
+    match from.read(buf) {
+        Ok(n) => n,
+        Err(_) => 0,
+    }
+}
