@@ -20,7 +20,8 @@ fn by_ttl(rt: &impl Print, ttl: u32, over: &[u8], on: &[u8]) {
 fn service_word(rt: &impl Print, entry_type: SdServiceEntryType, ttl: u32) {
     match entry_type {
         SdServiceEntryType::FindService => text(rt, b"find service "),
-        SdServiceEntryType::OfferService => by_ttl(rt,
+        SdServiceEntryType::OfferService => by_ttl(
+            rt,
             ttl,
             b"stop offer of service ",
             b"offer of service ",
@@ -30,12 +31,14 @@ fn service_word(rt: &impl Print, entry_type: SdServiceEntryType, ttl: u32) {
 
 fn eventgroup_word(rt: &impl Print, entry_type: EventGroupEntryType, ttl: u32) {
     match entry_type {
-        EventGroupEntryType::SubscribeOrStop => by_ttl(rt,
+        EventGroupEntryType::SubscribeOrStop => by_ttl(
+            rt,
             ttl,
             b"stop subscription to service ",
             b"subscription to service ",
         ),
-        EventGroupEntryType::SubscribeAckOrNack => by_ttl(rt,
+        EventGroupEntryType::SubscribeAckOrNack => by_ttl(
+            rt,
             ttl,
             b"subscription refused by service ",
             b"subscription acknowledged by service ",
@@ -44,7 +47,8 @@ fn eventgroup_word(rt: &impl Print, entry_type: EventGroupEntryType, ttl: u32) {
 }
 
 fn head_words(rt: &impl Print, head: EntryHead) {
-    told(rt,
+    told(
+        rt,
         b"%04, instance %14, major version %2d, TTL %3d",
         [
             head.service_id as u64,
@@ -57,11 +61,16 @@ fn head_words(rt: &impl Print, head: EntryHead) {
 }
 
 fn group_words(rt: &impl Print, group: EventGroup) {
-    told(rt,
+    told(
+        rt,
         b", eventgroup %04, counter %1d",
         [group.eventgroup_id as u64, group.counter as u64, 0, 0, 0],
     );
-    yes_or_no(rt, b", initial data requested ", group.initial_data_requested);
+    yes_or_no(
+        rt,
+        b", initial data requested ",
+        group.initial_data_requested,
+    );
 }
 
 fn entry_words(rt: &impl Print, entry: SdEntry) {
@@ -88,7 +97,15 @@ fn entry_words(rt: &impl Print, entry: SdEntry) {
 }
 
 // One of an entry's runs, on a line; nothing of an empty one.
-fn one_run(rt: &impl Print, name: &[u8], start: u8, count: u8, options: &[u8], table: &[u16], total: usize) {
+fn one_run(
+    rt: &impl Print,
+    name: &[u8],
+    start: u8,
+    count: u8,
+    options: &[u8],
+    table: &[u16],
+    total: usize,
+) {
     if count != 0 {
         text(rt, name);
         run(rt, options, table, total, RunCursor::new(start, count));
@@ -97,7 +114,8 @@ fn one_run(rt: &impl Print, name: &[u8], start: u8, count: u8, options: &[u8], t
 }
 
 fn runs(rt: &impl Print, head: EntryHead, options: &[u8], table: &[u16], total: usize) {
-    one_run(rt,
+    one_run(
+        rt,
         b"  run 1",
         head.start_index_options_1,
         head.number_of_options_1,
@@ -105,7 +123,8 @@ fn runs(rt: &impl Print, head: EntryHead, options: &[u8], table: &[u16], total: 
         table,
         total,
     );
-    one_run(rt,
+    one_run(
+        rt,
         b"  run 2",
         head.start_index_options_2,
         head.number_of_options_2,
@@ -116,7 +135,14 @@ fn runs(rt: &impl Print, head: EntryHead, options: &[u8], table: &[u16], total: 
 }
 
 // An entry with its number and its runs.
-fn listed(rt: &impl Print, place: usize, entry: SdEntry, options: &[u8], table: &[u16], total: usize) {
+fn listed(
+    rt: &impl Print,
+    place: usize,
+    entry: SdEntry,
+    options: &[u8],
+    table: &[u16],
+    total: usize,
+) {
     named(rt, b"entry ", place);
     text(rt, b": ");
     entry_words(rt, entry);

@@ -33,13 +33,22 @@ fn low(n: u32) -> u64 {
 
 fn address(rt: &impl Print, address: IpAddress) {
     match address {
-        IpAddress::V4(a) => told(rt,
+        IpAddress::V4(a) => told(
+            rt,
             b"%0d.%1d.%2d.%3d",
             [high(a) / 256, high(a) % 256, low(a) / 256, low(a) % 256, 0],
         ),
         IpAddress::V6(a, b, c, d) => {
-            told(rt, b"%0x:%1x:%2x:%3x:", [high(a), low(a), high(b), low(b), 0]);
-            told(rt, b"%0x:%1x:%2x:%3x", [high(c), low(c), high(d), low(d), 0]);
+            told(
+                rt,
+                b"%0x:%1x:%2x:%3x:",
+                [high(a), low(a), high(b), low(b), 0],
+            );
+            told(
+                rt,
+                b"%0x:%1x:%2x:%3x",
+                [high(c), low(c), high(d), low(d), 0],
+            );
         }
     }
 }
@@ -60,7 +69,8 @@ fn brief(rt: &impl Print, option: SdOption) {
             first: _,
             priority,
             weight,
-        } => told(rt,
+        } => told(
+            rt,
             b"load balancing, priority %0d, weight %1d",
             [priority as u64, weight as u64, 0, 0, 0],
         ),
@@ -78,7 +88,8 @@ fn brief(rt: &impl Print, option: SdOption) {
             protocol(rt, p);
             named(rt, b", port ", port as usize);
         }
-        SdOption::Unknown { code, first: _ } => told(rt,
+        SdOption::Unknown { code, first: _ } => told(
+            rt,
             b"unknown type %02",
             [code as u64, 0, 0, 0, 0],
         ),

@@ -13,7 +13,6 @@ use Rattle.tp_stream.specs.declared.TpStream.{TpStream}
 use Rattle.tp_stream.specs.Stream.{view, stored, blank}
 use Rattle.tp_stream.specs.Promises.{Ran}
 use Rattle.tp_words.specs.Words.{state_of, put}
-use Rattle.hub.specs.declared.answers.Answer.{Answer}
 use Rattle.hub.specs.Tp.{Consumes}
 use Rattle.tp_pieces.specs.declared.Piece.{Piece}
 use Rattle.tp_pieces.specs.declared.Came.{Came}

@@ -134,7 +134,8 @@ pub fn consumed(
 }
 
 // One segment comes; prints it with the answer.
-pub fn answered(rt: &impl Print, 
+pub fn answered(
+    rt: &impl Print,
     s: TpStream,
     buf: &mut [u8],
     words: &mut [u32],
@@ -152,7 +153,8 @@ pub fn answered(rt: &impl Print,
 }
 
 // The same, and more comes on the line.
-pub fn comes(rt: &impl Print, 
+pub fn comes(
+    rt: &impl Print,
     s: TpStream,
     buf: &mut [u8],
     words: &mut [u32],

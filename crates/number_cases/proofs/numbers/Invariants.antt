@@ -4,7 +4,7 @@ use borrow.Author.Rules.{rules}
 use Rattle.number_cases.proofs.numbers.Given as goal
 
 abbrev pub invariant-loop-i : goal.invariant-loop-i
-invariant-loop-i l = l.i ≤ most + 1
+invariant-loop-i g l = l.i ≤ most + 1
 
 abbrev pub decreases-loop-i : goal.decreases-loop-i
-decreases-loop-i l = most + 1 - l.i
+decreases-loop-i g l = most + 1 - l.i

@@ -4,7 +4,6 @@ use mathlib.Core.Path.{ap₂, ◌∙◌}
 use mathlib.Core.List.{List}
 use lib.ListN.{take}
 use native.Mathlib.Omega.{arith}
-use borrow.Author.Rules.{rules}
 use Rattle.tp_pieces.specs.Pieces.{size}
 use Rattle.tp_pieces.proofs.PieceLaws.{frame, framed}
 use Rattle.tp_pieces.proofs.segment.Goals as goal

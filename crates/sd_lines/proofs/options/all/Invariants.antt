@@ -1,10 +1,8 @@
 use Prim.Native.Nat.{◌-◌, ◌≤◌}
-use borrow.Author.Rules.{rules}
 use Rattle.sd_lines.proofs.options.all.Given as goal
 
-
 abbrev pub invariant-loop-place : goal.invariant-loop-place
-invariant-loop-place l = l.place ≤ l.count
+invariant-loop-place g l = l.place ≤ l.count
 
 abbrev pub decreases-loop-place : goal.decreases-loop-place
-decreases-loop-place l = l.count - l.place
+decreases-loop-place g l = l.count - l.place
