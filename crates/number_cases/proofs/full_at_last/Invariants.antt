@@ -1,10 +1,9 @@
 use Prim.Native.Nat.{◌-◌, ◌≤◌}
 use Rattle.tp_machine.specs.Machine.{most}
-use borrow.Author.Rules.{rules}
 use Rattle.number_cases.proofs.full_at_last.Given as goal
 
 abbrev pub invariant-loop-i : goal.invariant-loop-i
-invariant-loop-i l = l.i ≤ most
+invariant-loop-i g l = l.i ≤ most
 
 abbrev pub decreases-loop-i : goal.decreases-loop-i
-decreases-loop-i l = most - l.i
+decreases-loop-i g l = most - l.i

@@ -1,6 +1,5 @@
 use Prim.Native.Nat.{◌+◌, ◌-◌, ◌≤◌}
 use Rattle.tp_machine.specs.Machine.{most}
-use borrow.Author.Rules.{rules}
 use Rattle.number_cases.proofs.numbers.Given as goal
 
 abbrev pub invariant-loop-i : goal.invariant-loop-i

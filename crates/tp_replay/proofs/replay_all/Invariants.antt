@@ -1,11 +1,10 @@
 use Prim.Native.Nat.{◌-◌, ◌≤◌}
 use mathlib.Core.Path.{◌≡◌}
 use lib.ListN.{length}
-use borrow.Author.Rules.{rules}
 use Rattle.tp_replay.proofs.replay_all.Given as goal
 
 abbrev pub invariant-loop-i : goal.invariant-loop-i
-invariant-loop-i g l = (l.i ≤ l.total) × (length «record» ≡ length l.initial.record) × (length l.words ≡ length l.initial.words) × (length l.buffer ≡ length l.initial.buffer) × (length l.counts ≡ length l.initial.counts)
+invariant-loop-i g l = (l.i ≤ l.total) × (length l.«record» ≡ length l.initial.record) × (length l.words ≡ length l.initial.words) × (length l.buffer ≡ length l.initial.buffer) × (length l.counts ≡ length l.initial.counts)
 
 abbrev pub decreases-loop-i : goal.decreases-loop-i
 decreases-loop-i g l = l.total - l.i

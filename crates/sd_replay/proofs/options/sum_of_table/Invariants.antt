@@ -1,6 +1,5 @@
 use Prim.Native.Nat.{◌-◌, ◌≤◌}
 use lib.ListN.{length}
-use borrow.Author.Rules.{rules}
 use Rattle.sd_replay.proofs.options.sum_of_table.Given as goal
 
 abbrev pub invariant-loop-i : goal.invariant-loop-i
