@@ -3,6 +3,7 @@
 #![tactic(auto)]
 
 ghost use Rattle.std.specs.Prelude.{◌≡◌, ◌≤◌, length, take, IfSome};
+ghost use Rattle.std.specs.Io.KnownBytes.{Consumes};
 
 use std::env::{Env, FillError};
 use std::io::Read;
@@ -19,9 +20,10 @@ pub fn word(rt: &impl Env, place: usize, buf: &mut [u8]) -> Option<usize>
 }
 
 // Reads until the buffer is full or the input ends; answers how many bytes came, which stand in front.
-pub fn fill(from: &mut impl Read, buf: &mut [u8]) -> usize
+pub fn fill<R: Read>(from: &mut R, buf: &mut [u8]) -> usize
     ensures in_bounds { result ≤ length buf.new }
     ensures front { result ≡ length (take result buf.new) }
+    ensures bytes { Consumes (R.remaining from.old) (R.remaining from.new) (take result buf.new) }
 {
     let mut done: usize = 0;
     while done < buf.len() {
@@ -35,8 +37,9 @@ pub fn fill(from: &mut impl Read, buf: &mut [u8]) -> usize
 }
 
 // One read: how many bytes came, 0 at the end.
-fn some(from: &mut impl Read, buf: &mut [u8]) -> usize
-    ensures { result ≤ length buf.new }
+fn some<R: Read>(from: &mut R, buf: &mut [u8]) -> usize
+    ensures in_bounds { result ≤ length buf.new }
+    ensures bytes { Consumes (R.remaining from.old) (R.remaining from.new) (take result buf.new) }
 {
     match from.read(buf) {
         Ok(n) => n,
