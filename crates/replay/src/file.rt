@@ -9,7 +9,7 @@ use std::rt::Files;
 use std::str::from_utf8;
 use std::{fs, io};
 
-// The number of the system's error for a name that is no text, which names no file here.
+// The number of the system's error for a name that is no text: `std` opens files by text alone.
 const NO_TEXT: i32 = 84;
 
 // Opens a file for reading.
@@ -35,8 +35,9 @@ const ROOM: usize = 300;
 fn failed(to: &impl Print, what: &[u8], error: io::Error) {
     let mut words = Cursor::new([0u8; ROOM]);
     let _ = write!(words, "{error}");
+    let n = words.position().min(ROOM as u64) as usize;
     let said = words.into_inner();
-    let text = from_utf8(&said).unwrap_or("");
+    let text = from_utf8(&said[..n]).unwrap_or("");
     let _ = to.write_all(what);
     let _ = to.write_all(b": ");
     let _ = to.print(without_number(text));
