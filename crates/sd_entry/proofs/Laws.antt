@@ -179,6 +179,12 @@ module _ (n : ℕ) (s : List ℕ) where
   unfolding placed_entry ◌>>=◌ given
   placed_refused r p = rw p
 
+  pub placed_short : length s < 16 → verdict (placed_entry n s) ≡ refused (unexpected_end 16)
+  placed_short h = placed_refused _ (read_short s h)
+
+  pub placed_unknown : 16 ≤ length s → 2 ≤ get_or s 0 0 → (get_or s 0 0 < 6) ⊎ (8 ≤ get_or s 0 0) → verdict (placed_entry n s) ≡ refused (unknown_entry (get_or s 0 0))
+  placed_unknown h low high = placed_refused _ (read_unknown s h low high)
+
   placed_read : (e : Entry) → read_entry s ≡ accepted e → verdict (placed_entry n s) ≡ runs_of n (head_of e)
   unfolding placed_entry
   placed_read e p = ap verdict (bind_pass (read_entry s) _ e p) ∙ verdict_then (runs_of n (head_of e)) e

@@ -154,6 +154,7 @@ fn eventgroup_entry(code: u8, s: &[u8]) -> SdEntry
 }
 
 // The entry in front of `s`, whose later bytes are not read; 1 with 16 below 16 bytes, then 11.
+#[tactic(auto, using(crate::proofs::Laws::read_short, crate::proofs::Laws::read_typed, crate::proofs::Laws::read_unknown))]
 pub fn read_entry(s: &[u8]) -> EntryAnswer
     ensures { answer_said result ≡ read_entry s.now }
 {

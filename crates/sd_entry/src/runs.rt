@@ -8,6 +8,7 @@ use crate::{ENTRY_LEN, FOUR_BITS};
 use refusal::{Refusal, Verdict};
 
 // Whether a run lies inside a list of so many options.
+#[tactic(auto, using(crate::proofs::Laws::run_empty, crate::proofs::Laws::run_held))]
 fn run_inside(start: u8, count: u8, options: usize) -> bool
     ensures { result ≡ inside options start count }
 {
@@ -44,6 +45,7 @@ fn judge_runs(start1: u8, count1: u8, start2: u8, count2: u8, options: usize) ->
 }
 
 // The verdict on the entry in front of `s` beside so many options, without reading its other fields: 1 with 16, 11, 12 for run 1, 12 for run 2.
+#[tactic(auto, using(crate::proofs::Laws::placed_short, crate::proofs::Laws::placed_unknown, crate::proofs::Laws::placed_known))]
 pub fn judge_entry(s: &[u8], options: usize) -> Verdict
     ensures { verdict_said result ≡ verdict (placed_entry options s.now) }
 {

@@ -2,14 +2,15 @@
 use mathlib.Core.Path.{◌≡◌, sym, ap, ◌∙◌}
 use mathlib.Core.Bool.{not}
 use mathlib.Core.List.{List}
-use Prim.Native.Nat.{ℕ, ◌+◌, ◌*◌, ◌-◌, ◌%◌, ◌≤◌}
+use Prim.Native.Nat.{ℕ, ◌+◌, ◌*◌, ◌-◌, ◌%◌, ◌<◌, ◌≤◌}
 use native.Mathlib.Omega.{arith}
 use lib.ListN.{length, take, drop, get_or, length-drop}
 use lib.Seq.{length-take-le}
-use borrow.Author.Tests.{le-ltb, eq-eqb}
-use Rattle.numbers.specs.Answers.{accepted, pass, ◌>>◌}
+use borrow.Author.Tests.{lt-ltb, le-ltb, eq-eqb}
+use Rattle.numbers.specs.Refusals.{unexpected_end}
+use Rattle.numbers.specs.Answers.{Verdict, accepted, refused, pass, ◌>>◌}
 use Rattle.numbers.specs.Bytes.{at16, at32}
-use Rattle.numbers.proofs.AnswerLaws.{when_pass, then_accepted, accepted_inj}
+use Rattle.numbers.proofs.AnswerLaws.{when_hit, when_pass, then_accepted, accepted_inj}
 use Rattle.numbers.proofs.ByteLaws.{take_rest}
 use Rattle.sd_format.specs.Payload.{sizes, entries_length, options_length, entries_part, options_part}
 use Rattle.sd_format.proofs.PayloadLaws.{Sizes, sizes_said}
@@ -63,3 +64,8 @@ parts s n e =
       entries_are = ap (λ (m : ℕ). take m (drop 8 s)) k;
       options_are = take_rest s (12 + n) ∙ ap (λ (m : ℕ). drop (12 + m) s) (sym is);
     }
+
+-- fewer than 12 bytes
+pub sized_short : (s : List ℕ) → length s < 12 → sized s ≡ refused (unexpected_end 12)
+unfolding sized sizes ◌>>◌
+sized_short s h = ap (λ (v : Verdict). v >> accepted (entries_length s)) (when_hit _ _ _ (lt-ltb (length s) 12 h))

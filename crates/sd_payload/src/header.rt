@@ -16,6 +16,7 @@ pub const SD_INTERFACE_VERSION: u8 = 1;
 pub const NOTIFICATION: u8 = 0x02;
 
 // The verdict on the fields of an SD header: 14 to 19.
+#[tactic(auto, using(crate::proofs::HeaderLaws::session_refused))]
 fn judge_fields(
     id: u32,
     client: u16,

@@ -43,6 +43,7 @@ fn judge_whole(had: usize, entries: u32, options: u32) -> Verdict
 }
 
 // The length of the entries part: 1, 2, 3, 1, 4, 5, 1, 6. The options part is all that is left behind its own length.
+#[tactic(auto, using(crate::proofs::SizeLaws::sized_short))]
 pub fn judge_sizes(payload: &[u8]) -> Count
     ensures { count_said result ≡ sized payload.now }
 {

@@ -3,6 +3,7 @@ use Prim.Native.Nat.{ℕ, ◌+◌, ◌*◌, ◌%◌, ◌≤◌}
 use mathlib.Core.Path.{◌≡◌, refl, sym, ap, ◌∙◌}
 use mathlib.Core.Bool.{not}
 use mathlib.Core.List.{List}
+use native.Mathlib.Omega.{arith}
 use borrow.Author.Tests.{lt-ltb, le-ltb, eq-eqb, ne_eqb}
 use lib.ListN.{length, get_or}
 use Rattle.numbers.specs.Answers.{Answer, accepted, refused, Verdict, ◌>>◌}
@@ -15,10 +16,6 @@ use Rattle.refusal.specs.Said.{said, verdict_said, verdict_refusal}
 use Rattle.sd_payload.specs.Sized.{sized, whole}
 use Rattle.sd_payload.proofs.SizeLaws.{word_at, sized_by, sizes_whole}
 use Rattle.sd_payload.proofs.sizes.judge_sizes.Goals as goal
-
-pub returns-then-had-lt-MIN_PAYLOAD_LEN : goal.returns-then-had-lt-MIN_PAYLOAD_LEN
-unfolding sized sizes ◌>>◌
-returns-then-had-lt-MIN_PAYLOAD_LEN c = sym (ap (λ (v : Verdict). v >> accepted (entries_length c.args.payload.now)) (when_hit _ _ _ (lt-ltb _ _ c.if-had-lt-MIN_PAYLOAD_LEN.true)))
 
 -- ---- by the entries length
 
@@ -53,33 +50,33 @@ pub returns-then-entries-gt-MAX_ENTRIES_LEN : goal.returns-then-entries-gt-MAX_E
 unfolding sizes ◌>>◌
 returns-then-entries-gt-MAX_ENTRIES_LEN c =
     by_entries c.args.payload.now _ c.be32-entries.ensures (ap (λ (v : Verdict). v >> accepted c.be32-entries.result)
-    (when_pass _ _ _ (le-ltb _ _ c.if-had-lt-MIN_PAYLOAD_LEN.false) ∙ when_hit _ _ _ (lt-ltb _ _ c.if-entries-gt-MAX_ENTRIES_LEN.true)))
+    (when_pass _ _ _ (le-ltb (length c.args.payload.now) 12 (omega arith)) ∙ when_hit _ _ _ (lt-ltb _ _ c.if-entries-gt-MAX_ENTRIES_LEN.true)))
 
 pub returns-then-entries_len-ne0 : goal.returns-then-entries_len-ne0
 unfolding sizes ◌>>◌
 returns-then-entries_len-ne0 c =
     by_entries c.args.payload.now _ c.be32-entries.ensures (ap (λ (v : Verdict). v >> accepted c.be32-entries.result)
-    (when_pass _ _ _ (le-ltb _ _ c.if-had-lt-MIN_PAYLOAD_LEN.false) ∙ when_pass _ _ _ (le-ltb _ _ c.if-entries-gt-MAX_ENTRIES_LEN.false) ∙ when_hit _ _ _ (ap not (ne_eqb _ _ c.if-entries_len-ne0.true))))
+    (when_pass _ _ _ (le-ltb (length c.args.payload.now) 12 (omega arith)) ∙ when_pass _ _ _ (le-ltb _ _ c.if-entries-gt-MAX_ENTRIES_LEN.false) ∙ when_hit _ _ _ (ap not (ne_eqb _ _ c.if-entries_len-ne0.true))))
 
 pub returns-then-had-from : goal.returns-then-had-from
 unfolding sizes ◌>>◌
 returns-then-had-from c =
     by_entries c.args.payload.now _ c.be32-entries.ensures (ap (λ (v : Verdict). v >> accepted c.be32-entries.result)
-    (when_pass _ _ _ (le-ltb _ _ c.if-had-lt-MIN_PAYLOAD_LEN.false) ∙ when_pass _ _ _ (le-ltb _ _ c.if-entries-gt-MAX_ENTRIES_LEN.false) ∙ when_pass _ _ _ (ap not (eq-eqb _ _ c.if-entries_len-ne0.false)) ∙ when_hit _ _ _ (lt-ltb _ _ c.if-had-from.true)))
+    (when_pass _ _ _ (le-ltb (length c.args.payload.now) 12 (omega arith)) ∙ when_pass _ _ _ (le-ltb _ _ c.if-entries-gt-MAX_ENTRIES_LEN.false) ∙ when_pass _ _ _ (ap not (eq-eqb _ _ c.if-entries_len-ne0.false)) ∙ when_hit _ _ _ (lt-ltb _ _ c.if-had-from.true)))
 
 pub returns-then-options-gt-MAX_OPTIONS_LEN : goal.returns-then-options-gt-MAX_OPTIONS_LEN
 unfolding sizes ◌>>◌
 returns-then-options-gt-MAX_OPTIONS_LEN c =
     by_options c.args.payload.now _ c.be32-entries.ensures _ c.be32-options.ensures (ap (λ (v : Verdict). v >> accepted c.be32-entries.result)
-    (when_pass _ _ _ (le-ltb _ _ c.if-had-lt-MIN_PAYLOAD_LEN.false) ∙ when_pass _ _ _ (le-ltb _ _ c.if-entries-gt-MAX_ENTRIES_LEN.false) ∙ when_pass _ _ _ (ap not (eq-eqb _ _ c.if-entries_len-ne0.false)) ∙ when_pass _ _ _ (le-ltb _ _ c.if-had-from.false) ∙ when_hit _ _ _ (lt-ltb _ _ c.if-options-gt-MAX_OPTIONS_LEN.true)))
+    (when_pass _ _ _ (le-ltb (length c.args.payload.now) 12 (omega arith)) ∙ when_pass _ _ _ (le-ltb _ _ c.if-entries-gt-MAX_ENTRIES_LEN.false) ∙ when_pass _ _ _ (ap not (eq-eqb _ _ c.if-entries_len-ne0.false)) ∙ when_pass _ _ _ (le-ltb _ _ c.if-had-from.false) ∙ when_hit _ _ _ (lt-ltb _ _ c.if-options-gt-MAX_OPTIONS_LEN.true)))
 
 pub returns-in_default : goal.returns-in_default
 unfolding ◌>>◌
 returns-in_default c =
     ap (λ (r : Refusal). refused (said r)) (c.refusal.ensures ∙ ap verdict_refusal c.in_default.is)
-    ∙ by_options c.args.payload.now _ c.be32-entries.ensures _ c.be32-options.ensures (ap (λ (v : Verdict). v >> accepted c.be32-entries.result) (judged _ _ _ c.if-had-lt-MIN_PAYLOAD_LEN.false c.if-entries-gt-MAX_ENTRIES_LEN.false c.if-entries_len-ne0.false c.if-had-from.false c.if-options-gt-MAX_OPTIONS_LEN.false _ c.judge_whole-verdict.ensures ∙ ap verdict_said c.in_default.is))
+    ∙ by_options c.args.payload.now _ c.be32-entries.ensures _ c.be32-options.ensures (ap (λ (v : Verdict). v >> accepted c.be32-entries.result) (judged (length c.args.payload.now) _ _ (omega arith) c.if-entries-gt-MAX_ENTRIES_LEN.false c.if-entries_len-ne0.false c.if-had-from.false c.if-options-gt-MAX_OPTIONS_LEN.false _ c.judge_whole-verdict.ensures ∙ ap verdict_said c.in_default.is))
 
 pub returns : goal.returns
 unfolding ◌>>◌
 returns c =
-    by_options c.args.payload.now _ c.be32-entries.ensures _ c.be32-options.ensures (ap (λ (v : Verdict). v >> accepted c.be32-entries.result) (judged _ _ _ c.if-had-lt-MIN_PAYLOAD_LEN.false c.if-entries-gt-MAX_ENTRIES_LEN.false c.if-entries_len-ne0.false c.if-had-from.false c.if-options-gt-MAX_OPTIONS_LEN.false _ c.judge_whole-verdict.ensures ∙ ap verdict_said c.in-Passed.is))
+    by_options c.args.payload.now _ c.be32-entries.ensures _ c.be32-options.ensures (ap (λ (v : Verdict). v >> accepted c.be32-entries.result) (judged (length c.args.payload.now) _ _ (omega arith) c.if-entries-gt-MAX_ENTRIES_LEN.false c.if-entries_len-ne0.false c.if-had-from.false c.if-options-gt-MAX_OPTIONS_LEN.false _ c.judge_whole-verdict.ensures ∙ ap verdict_said c.in-Passed.is))
