@@ -243,7 +243,9 @@ fn ffi() -> String {
 #[test]
 fn declared_as_in_the_source() {
     // hub has the structs, and hub_c exports the functions that take and give them
-    let (Some(structs), Some(exports)) = (repository("crates/hub/src"), repository("crates/hub_c/src")) else {
+    let (Some(structs), Some(exports)) =
+        (repository("crates/hub/src"), repository("crates/hub_c/src"))
+    else {
         return;
     };
     let exported = functions(&(structs + &exports), "pub extern \"C\" fn ");
