@@ -1,7 +1,5 @@
 -- `tp_segment::is_segment` meets its contract: by the tests in their order. Assumes nothing.
-use Prim.Native.Nat.{◌≤◌}
-use mathlib.Core.Path.{◌≡◌, sym, ◌∙◌}
-use lib.ListN.{length}
+use mathlib.Core.Path.{sym, ◌∙◌}
 use Rattle.numbers.specs.Bytes.{at16, at32}
 use Rattle.tp_segment.proofs.Laws.{is_short, is_length, is_version, is_type}
 use Rattle.tp_segment.proofs.is_segment.Goals as goal
@@ -12,14 +10,14 @@ returns-then-s-lt-SEGMENT_HEADER_LEN c = sym (is_short _ c.if-s-lt-SEGMENT_HEADE
 pub returns-then-field-s : goal.returns-then-field-s
 unfolding at16 at32
 returns-then-field-s c =
-    sym (is_length _ (let long : 20 ≤ length c.args.s.now = c.if-s-lt-SEGMENT_HEADER_LEN.false in long) (λ e. c.if-field-s.true ((let field : c.be32-field.result ≡ at32 c.args.s.now 4 = c.be32-field.ensures in field) ∙ e)))
+    sym (is_length _ c.if-s-lt-SEGMENT_HEADER_LEN.false (λ e. c.if-field-s.true (c.be32-field.ensures ∙ e)))
 
 pub returns-then-s-ne1 : goal.returns-then-s-ne1
 unfolding at16 at32
 returns-then-s-ne1 c =
-    sym (is_version _ (let long : 20 ≤ length c.args.s.now = c.if-s-lt-SEGMENT_HEADER_LEN.false in long) (sym (let field : c.be32-field.result ≡ at32 c.args.s.now 4 = c.be32-field.ensures in field) ∙ c.if-field-s.false) c.if-s-ne1.true)
+    sym (is_version _ c.if-s-lt-SEGMENT_HEADER_LEN.false (sym c.be32-field.ensures ∙ c.if-field-s.false) c.if-s-ne1.true)
 
 pub returns : goal.returns
 unfolding at16 at32
 returns c =
-    c.tp_type.ensures ∙ sym (is_type _ (let long : 20 ≤ length c.args.s.now = c.if-s-lt-SEGMENT_HEADER_LEN.false in long) (sym (let field : c.be32-field.result ≡ at32 c.args.s.now 4 = c.be32-field.ensures in field) ∙ c.if-field-s.false) c.if-s-ne1.false)
+    c.tp_type.ensures ∙ sym (is_type _ c.if-s-lt-SEGMENT_HEADER_LEN.false (sym c.be32-field.ensures ∙ c.if-field-s.false) c.if-s-ne1.false)
