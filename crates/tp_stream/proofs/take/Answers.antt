@@ -17,5 +17,7 @@ returns-in_default c =
 
 pub returns : goal.returns
 returns c =
-    let tells = ready_tells _ _ _ (let given_end : accepted c.in-Good.end ≡ ready (view c.args.s) (length c.args.buf.now) = ap count_said (sym c.in-Good.is) ∙ c.ready-answer.ensures in given_end) in
-    took_end c.args.s c.args.buf.now _ _ (let given_end : accepted c.in-Good.end ≡ ready (view c.args.s) (length c.args.buf.now) = ap count_said (sym c.in-Good.is) ∙ c.ready-answer.ensures in given_end) (c.put_length.ensures ∙ length_fits c.args.buf.now _ (omega (arith, tells)) (omega (arith, tells)))
+    let buf = c.args.buf.now in
+    let given_end : accepted c.in-Good.end ≡ ready (view c.args.s) (length buf) = ap count_said (sym c.in-Good.is) ∙ c.ready-answer.ensures in
+    let tells = ready_tells _ _ _ given_end in
+    took_end c.args.s buf _ _ given_end (c.put_length.ensures ∙ length_fits buf _ (omega (arith, tells)) (omega (arith, tells)))

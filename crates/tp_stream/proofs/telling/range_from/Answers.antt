@@ -1,9 +1,5 @@
 -- `tp_stream::telling::range_from` meets its contract. Assumes nothing.
-use mathlib.Core.Path.{◌≡◌, sym, ◌∙◌}
-use mathlib.Core.Bool.{false}
-use lib.ListN.{length}
-use Rattle.tp_machine.specs.Machine.{most, bad_state}
-use Rattle.tp_stream.specs.Stream.{view}
+use mathlib.Core.Path.{sym, ◌∙◌}
 use Rattle.tp_stream.proofs.StreamLaws.{length_of_map}
 use Rattle.tp_stream.proofs.TellingLaws.{range_bad, few, range_good}
 use borrow.Author.Rules.{rules}
@@ -13,8 +9,9 @@ pub returns-then-malformed : goal.returns-then-malformed
 returns-then-malformed c = range_bad _ _ (sym c.malformed.ensures ∙ c.if-malformed.true)
 
 pub first_from-requires : goal.first_from-requires
-first_from-requires c = few _ (let good : bad_state (view c.args.s) ≡ false = sym c.malformed.ensures ∙ c.if-malformed.false in good)
+first_from-requires c = few _ (sym c.malformed.ensures ∙ c.if-malformed.false)
 
+-- what `search` finds is the length of the stream's array
 pub returns : goal.returns
 returns c =
-    range_good _ (let good : bad_state (view c.args.s) ≡ false = sym c.malformed.ensures ∙ c.if-malformed.false in good) _ _ (let long : length c.args.s.ranges ≡ most = search (rules, length_of_map) in long) c.first_from.ensures
+    range_good _ (sym c.malformed.ensures ∙ c.if-malformed.false) _ _ (search (rules, length_of_map)) c.first_from.ensures
