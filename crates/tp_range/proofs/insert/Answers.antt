@@ -1,28 +1,24 @@
 -- `tp_range::insert` meets its contract: in the loop those from i on have been moved one place further. Assumes nothing.
-use Prim.Native.Nat.{ℕ, ◌+◌, ◌-◌, ◌<◌}
+use Prim.Native.Nat.{ℕ, ◌+◌, ◌-◌}
 use mathlib.Core.Path.{◌≡◌, sym, ap, ◌∙◌}
 use mathlib.Core.List.{List}
 use borrow.Author.Rules.{rules}
-use native.Mathlib.Nat.{le_antisymm, le_of_lt}
+use native.Mathlib.Nat.{le_antisymm}
 use native.Mathlib.Omega.{arith}
 use lib.ListN.{length, take, get_or, set, length-set}
 use lib.Seq.{length-take-le}
 use Rattle.tp_machine.specs.declared.TpRange.{TpRange}
-use Rattle.tp_machine.specs.Machine.{most}
 use Rattle.tp_range.specs.Joining.{none}
 use Rattle.tp_range.proofs.Laws.{place_upto, moved, moved_none, moved_one, moved_in}
 use Rattle.tp_range.proofs.insert.Goals as goal
 
-pub place_of-at-requires : goal.place_of-at-requires
-place_of-at-requires c = omega (arith, c.requires)
-
 pub loop-i-init : goal.loop-i-init
 loop-i-init c =
-    let held : length (take c.args.count c.args.ranges) ≡ c.args.count = length-take-le _ _ (le_of_lt (let fits : c.args.count < length c.args.ranges = omega (arith, (let long : length c.args.ranges ≡ most = search rules in long), c.requires) in fits)) in
+    let held : length (take c.args.count c.args.ranges) ≡ c.args.count = length-take-le _ _ (omega arith) in
     record {
       from = omega (arith, c.place_of-at.ensures, held, place_upto c.args.new.start (take c.args.count c.args.ranges));
       upto = omega arith;
-      long = (let long : length c.args.ranges ≡ most = search rules in long);
+      long = search rules;
       is = moved_none c.args.ranges c.args.count;
     }
 
@@ -37,7 +33,9 @@ loop-i-preserved c =
       from = omega arith;
       upto = omega arith;
       long = simp length-set inv.long;
-      is = ap (λ (l : List TpRange). set l (i - 1 + 1) (get_or array (i - 1) none)) (inv.is ∙ sym (ap (moved array count) back)) ∙ moved_one array count (let fits : c.args.count < length c.args.ranges = omega (arith, (let long : length c.args.ranges ≡ most = search rules in long), c.requires) in fits) (i - 1) (omega arith);
+      is =
+          ap (λ (l : List TpRange). set l (i - 1 + 1) (get_or array (i - 1) none)) (inv.is ∙ sym (ap (moved array count) back))
+          ∙ moved_one array count (omega arith) (i - 1) (omega arith);
     }
 
 pub returns : goal.returns
@@ -48,4 +46,4 @@ returns c =
     let at : ℕ = c.place_of-at.result in
     let inv = c.loop-i.invariant in
     ap (λ (l : List TpRange). set l at new) (inv.is ∙ ap (moved array count) (le_antisymm c.loop-i-test.false inv.from))
-    ∙ moved_in array count (let fits : c.args.count < length c.args.ranges = omega (arith, (let long : length c.args.ranges ≡ most = search rules in long), c.requires) in fits) new at c.place_of-at.ensures
+    ∙ moved_in array count (omega arith) new at c.place_of-at.ensures

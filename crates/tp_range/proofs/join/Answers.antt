@@ -34,12 +34,12 @@ module _
 
 pub loop-i-init : goal.loop-i-init
 unfolding keep grow
-loop-i-init c = record { upto = omega arith; few = omega arith; long = (let long : length c.args.ranges ≡ most = search rules in long); counts = refl; lays = refl; grows = refl }
+loop-i-init c = record { upto = omega arith; few = omega arith; long = search rules; counts = refl; lays = refl; grows = refl }
 
 pub loop-i-preserved-then-touches : goal.loop-i-preserved-then-touches
 loop-i-preserved-then-touches c =
     let inv = c.loop-i.invariant in
-    let h : c.loop-i.i < length c.args.ranges = omega (arith, (let long : length c.args.ranges ≡ most = search rules in long)) in
+    let h : c.loop-i.i < length c.args.ranges = omega arith in
     let e : touch c.args.new (get_or c.args.ranges c.loop-i.i none) ≡ true = sym c.touches.ensures ∙ c.if-touches.true in
     let k : keep c.args.new (take (c.loop-i.i + 1) c.args.ranges) ≡ keep c.args.new (take c.loop-i.i c.args.ranges) = keep_touched _ _ _ none h e in
     record {
@@ -57,7 +57,7 @@ loop-i-preserved c =
     let array = c.args.ranges in
     let r : TpRange = get_or array c.loop-i.i none in
     let old : List TpRange = keep c.args.new (take c.loop-i.i array) in
-    let h : c.loop-i.i < length array = omega (arith, (let long : length c.args.ranges ≡ most = search rules in long)) in
+    let h : c.loop-i.i < length array = omega arith in
     let e : touch c.args.new r ≡ false = sym c.touches.ensures ∙ c.if-touches.false in
     let k : keep c.args.new (take (c.loop-i.i + 1) array) ≡ old ++ (r ∷ []) = keep_apart _ _ _ none h e in
     record {
@@ -69,15 +69,10 @@ loop-i-preserved c =
       grows = inv.grows ∙ sym (grow_apart _ _ _ none h _ e);
     }
 
-pub insert-requires : goal.insert-requires
-insert-requires c = omega (arith, (let room : c.loop-i.kept < most = omega arith in room))
-
 pub returns-then-kept-lt-MAX_RANGES : goal.returns-then-kept-lt-MAX_RANGES
 returns-then-kept-lt-MAX_RANGES c =
     (λ j. record { full = false; ranges = c.insert.ensures j; count = c.loop-i.kept + 1 })
-    ∙ with_place _ _ _ _ _ _ _ _ (let long : length c.args.ranges ≡ most = search rules in long) c.loop-i.invariant c.loop-i-test.false c.places-held.ensures (let room : c.loop-i.kept < most = omega arith in room)
+    ∙ with_place _ _ _ _ _ _ _ _ (search rules) c.loop-i.invariant c.loop-i-test.false c.places-held.ensures (omega arith)
 
 pub returns : goal.returns
-returns c =
-    let none_left : most ≤ c.loop-i.kept = omega arith in
-    without _ _ _ _ _ _ _ _ (let long : length c.args.ranges ≡ most = search rules in long) c.loop-i.invariant c.loop-i-test.false c.places-held.ensures none_left
+returns c = without _ _ _ _ _ _ _ _ (search rules) c.loop-i.invariant c.loop-i-test.false c.places-held.ensures (omega arith)

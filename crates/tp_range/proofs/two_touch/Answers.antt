@@ -1,27 +1,23 @@
 -- `tp_range::two_touch` meets its contract: those passed touch none behind them, so the answer for all is the answer for the rest. Assumes nothing.
-use Prim.Native.Nat.{◌≤◌}
-use mathlib.Core.Path.{◌≡◌, sym, ◌∙◌}
-use borrow.Author.Rules.{rules}
+use mathlib.Core.Path.{sym, ◌∙◌}
 use native.Mathlib.Omega.{arith}
-use lib.ListN.{length}
-use Rattle.tp_machine.specs.Machine.{most}
 use Rattle.tp_range.specs.Joining.{none}
 use Rattle.tp_range.proofs.Laws.{any_hit, any_miss, any_end, touch_hit, touch_miss, touch_end}
 use Rattle.tp_range.proofs.two_touch.Goals as goal
 
 pub loop-i-preserved : goal.loop-i-preserved
 loop-i-preserved c =
-    touch_miss _ _ _ none c.loop-i-test.true (let fits : c.args.count ≤ length c.args.ranges = omega (arith, c.requires, (let long : length c.args.ranges ≡ most = search rules in long)) in fits) (sym c.loop-j.invariant ∙ any_end _ _ _ _ c.loop-j-test.false)
+    touch_miss _ _ _ none c.loop-i-test.true (omega arith) (sym c.loop-j.invariant ∙ any_end _ _ _ _ c.loop-j-test.false)
     ∙ c.loop-i.invariant
 
 pub returns-then-touches : goal.returns-then-touches
 returns-then-touches c =
-    let one = sym c.loop-j.invariant ∙ any_hit _ _ _ none c.loop-j-test.true (let fits : c.args.count ≤ length c.args.ranges = omega (arith, c.requires, (let long : length c.args.ranges ≡ most = search rules in long)) in fits) _ (sym c.touches.ensures ∙ c.if-touches.true) in
-    sym (touch_hit _ _ _ none c.loop-i-test.true (let fits : c.args.count ≤ length c.args.ranges = omega (arith, c.requires, (let long : length c.args.ranges ≡ most = search rules in long)) in fits) one) ∙ c.loop-i.invariant
+    let one = sym c.loop-j.invariant ∙ any_hit _ _ _ none c.loop-j-test.true (omega arith) _ (sym c.touches.ensures ∙ c.if-touches.true) in
+    sym (touch_hit _ _ _ none c.loop-i-test.true (omega arith) one) ∙ c.loop-i.invariant
 
 pub loop-j-preserved : goal.loop-j-preserved
 loop-j-preserved c =
-    any_miss _ _ _ none c.loop-j-test.true (let fits : c.args.count ≤ length c.args.ranges = omega (arith, c.requires, (let long : length c.args.ranges ≡ most = search rules in long)) in fits) _ (sym c.touches.ensures ∙ c.if-touches.false)
+    any_miss _ _ _ none c.loop-j-test.true (omega arith) _ (sym c.touches.ensures ∙ c.if-touches.false)
     ∙ c.loop-j.invariant
 
 pub returns : goal.returns
