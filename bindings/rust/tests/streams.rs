@@ -16,45 +16,57 @@ fn orders() -> impl Iterator<Item = [usize; 4]> {
     any.filter(|order| (0..4).all(|piece| order.contains(&piece)))
 }
 
-#[test]
-fn a_report_in_any_order() {
-    assert_eq!(orders().count(), 24);
+/// A report of four pieces, which come in this order, over a buffer of these bytes.
+fn joined(order: [usize; 4], lent: u8) {
     let report: Vec<u8> = (0..100).collect();
     let pieces = [(0, 32), (32, 48), (48, 96), (96, 100)];
+    let mut buffer = [lent; 16 + 128];
+    let mut stream = TpBuf::new(128, &mut buffer).unwrap();
+    for piece in order {
+        assert!(!stream.is_complete());
+        let (start, end) = pieces[piece];
+        let bytes = &report[start..end];
+        stream
+            .consume_tp(&segment(start as u32, end != 100, bytes))
+            .unwrap();
+    }
+    assert_eq!(stream.stream().end(), Some(100));
+    assert_eq!(held(stream.stream()), [(0, 100, 4)]);
+    let taken = stream.take().unwrap();
+    assert_eq!(taken.payload(), report);
+    assert_eq!(
+        taken.slice()[..16],
+        hex("12348001 0000006C 00000001 01010200")
+    );
+    assert_eq!(
+        stream.try_finalize().unwrap().payload(),
+        report,
+        "it can be taken again"
+    );
+    stream.clear();
+    assert_eq!(
+        (stream.stream().limit(), stream.stream().end()),
+        (128, None)
+    );
+    assert_eq!(
+        (stream.stream().count(), held(stream.stream())),
+        (Ok(0), vec![])
+    );
+    assert_eq!(buffer[116..], [lent; 28], "the caller's bytes stay");
+}
+
+#[test]
+fn a_report_in_any_order() {
+    for order in [[0, 1, 2, 3], [3, 2, 1, 0], [2, 0, 3, 1]] {
+        joined(order, 0xee);
+    }
+}
+
+#[test]
+fn a_report_in_every_order() {
+    assert_eq!(orders().count(), 24);
     for (lent, order) in (0xe0..).zip(orders()) {
-        let mut buffer = [lent; 16 + 128];
-        let mut stream = TpBuf::new(128, &mut buffer).unwrap();
-        for piece in order {
-            assert!(!stream.is_complete());
-            let (start, end) = pieces[piece];
-            let bytes = &report[start..end];
-            stream
-                .consume_tp(&segment(start as u32, end != 100, bytes))
-                .unwrap();
-        }
-        assert_eq!(stream.stream().end(), Some(100));
-        assert_eq!(held(stream.stream()), [(0, 100, 4)]);
-        let taken = stream.take().unwrap();
-        assert_eq!(taken.payload(), report);
-        assert_eq!(
-            taken.slice()[..16],
-            hex("12348001 0000006C 00000001 01010200")
-        );
-        assert_eq!(
-            stream.try_finalize().unwrap().payload(),
-            report,
-            "it can be taken again"
-        );
-        stream.clear();
-        assert_eq!(
-            (stream.stream().limit(), stream.stream().end()),
-            (128, None)
-        );
-        assert_eq!(
-            (stream.stream().count(), held(stream.stream())),
-            (Ok(0), vec![])
-        );
-        assert_eq!(buffer[116..], [lent; 28], "the caller's bytes stay");
+        joined(order, lent);
     }
 }
 
