@@ -184,6 +184,9 @@ fn c_functions(header: &str) -> Functions {
 // ---- constants
 
 fn number(text: &str) -> u64 {
+    if text.trim() == "u32::MAX" {
+        return u32::MAX.into();
+    }
     let text = text.trim().trim_end_matches('u').replace('_', "");
     match text.strip_prefix("0x") {
         Some(digits) => u64::from_str_radix(digits, 16).unwrap(),
@@ -326,26 +329,20 @@ fn every_number_has_a_name() {
         assert_eq!(named, names);
     }
     let source = repository("crates/refusal/src/values.rt").unwrap();
-    let (_, table) = source.split_once("pub fn numbers_of(").unwrap();
+    let (_, table) = source
+        .split_once("impl From<Refusal> for Numbers")
+        .unwrap();
     let called = |part: &str| {
-        let calls = part.split(&['\n', ' '][..]).filter_map(|word| {
-            let (call, rest) = word.split_once('(')?;
-            ["none", "one", "two", "three", "four", "five"]
-                .contains(&call)
-                .then_some(rest)
-        });
-        let first = |rest: &str| rest.trim_end_matches([',', ')']).parse::<u64>();
-        calls
-            .filter_map(|rest| first(rest).ok())
-            .collect::<Vec<_>>()
+        let calls = part.split("Numbers::new(").skip(1);
+        let first = |rest: &str| rest.trim_start().split(',').next()?.parse::<u64>().ok();
+        calls.filter_map(first).collect::<Vec<_>>()
     };
     let mut numbers: Vec<u64> = listed("viaductle_number")
         .iter()
         .map(|pair| pair.1)
         .collect();
     assert_eq!(numbers.remove(0), 0);
-    let one_line = table.replace("(\n            ", "(");
-    let mut said = called(&one_line);
+    let mut said = called(table);
     said.insert(8, 9); // which a function of its own tells
     assert_eq!(said, numbers);
 }

@@ -1,39 +1,60 @@
-//! The words of a refusal here and in `bin/show` (crates/words/src/lib.rt) are the same. That file's arms are read as text: an arm prints its
-//! literals, in which `%` and two characters stand for a value: its place, and `d` for decimal or how many hexadecimal digits.
+//! The words of a refusal here and in `bin/show` (crates/words/src/lib.rt) are the same. That file's arms are read as text: an arm writes one literal,
+//! in which a name of its pattern stands for a value, and behind the name how many hexadecimal digits.
 
 use std::{fs, path::Path};
 use viaductle::{LenSource, Place, Refusal, SdConfigurationStringError};
 
-/// What some code prints, its numbers as {place of the value} or {place:digits in hexadecimal}.
-fn printed(code: &str) -> String {
-    let literals = code.split("b\"").skip(1);
-    let text: String = literals
-        .map(|rest| rest.split('"').next().unwrap())
-        .collect();
-    let mut pieces = text.split('%');
+/// The names that a pattern gives a variant's values, in their order.
+fn names(pattern: &str) -> Vec<&str> {
+    let Some((_, fields)) = pattern.split_once(['(', '{']) else {
+        return Vec::new();
+    };
+    let (fields, _) = fields.split_once([')', '}']).unwrap();
+    let names = fields
+        .split(',')
+        .map(|field| field.split(':').next().unwrap().trim());
+    names.filter(|name| !name.is_empty()).collect()
+}
+
+/// What some code prints, its numbers as {place of the value} or {place:digits in hexadecimal}; the first of the names has the place `first`.
+fn printed(code: &str, names: &[&str], first: usize) -> String {
+    let text = code.split('"').nth(1).unwrap_or("");
+    let mut pieces = text.split('{');
     let mut all = pieces.next().unwrap().to_string();
     for piece in pieces {
-        let (place, form, behind) = (&piece[..1], &piece[1..2], &piece[2..]);
-        all += &match form {
-            "d" => format!("{{{place}}}{behind}"),
-            _ => format!("{{{place}:{form}}}{behind}"),
-        };
+        let (hole, behind) = piece.split_once('}').unwrap();
+        let (name, form) = hole.split_once(':').unwrap_or((hole, ""));
+        // `{}` stands for other words, those of a string's error.
+        if !name.is_empty() {
+            let place = first + names.iter().position(|one| *one == name).expect(name);
+            all = match form
+                .strip_prefix('0')
+                .and_then(|rest| rest.strip_suffix('x'))
+            {
+                Some(digits) => format!(
+                    "{}{{{place}:{digits}}}",
+                    all.strip_suffix("0x").expect(text)
+                ),
+                None => format!("{all}{{{place}}}"),
+            };
+        }
+        all += behind;
     }
     all
 }
 
-/// The arms of the matches over this enum that print something: the variant and what is printed.
-fn arms(source: &str, of: &str) -> Vec<(String, String)> {
-    let marker = format!("\n        {of}::");
+/// The arms of the match over this enum: the variant and what is printed. The first value that its patterns name has the place `first`.
+fn arms(source: &str, of: &str, first: usize) -> Vec<(String, String)> {
+    let marker = format!("\n            {of}::");
     let mut all = Vec::new();
     for arm in source.split(&marker[..]).skip(1) {
-        let arm = arm.split("\n    }\n").next().unwrap();
+        let arm = arm.split("\n        }\n").next().unwrap();
         let (pattern, code) = arm.split_once("=>").unwrap();
         let name = pattern.split(|c: char| !c.is_alphanumeric()).next();
-        let text = printed(code);
-        if !text.is_empty() {
-            all.push((name.unwrap().to_string(), text));
-        }
+        all.push((
+            name.unwrap().to_string(),
+            printed(code, &names(pattern), first),
+        ));
     }
     all
 }
@@ -70,15 +91,16 @@ fn bin_show_says_the_same() {
         println!("not in the repository: nothing to compare with");
         return;
     };
-    assert!(source.contains("b\"refused, \"") && source.contains("b\": \""));
+    assert!(source.contains("\"refused, {number}: \""));
+    let refusals = arms(&source, "Refusal", 0);
+    let printed_for = |variant: &str| -> Vec<&str> {
+        let of_it = refusals.iter().filter(|(name, _)| name == variant);
+        of_it.map(|(_, text)| &text[..]).collect()
+    };
 
-    // The first value of 9 is which of the six it is. In front of its words stands where it went wrong: the place is the one value handed there.
+    // The first value of 9 is which of the six it is. In front of its words stands where it went wrong.
     use SdConfigurationStringError::*;
-    let front = arms(&source, "Refusal")
-        .into_iter()
-        .find(|(name, _)| name == "ConfigurationString")
-        .map(|(_, text)| text.replace("{0}", &BYTE.to_string()))
-        .unwrap();
+    let front = printed_for("ConfigurationString")[0].replace("{1}", &BYTE.to_string());
     let string = |error, values: &[u64]| {
         let place = PLACE;
         let text = said(Refusal::ConfigurationString { error, place }, values);
@@ -112,7 +134,7 @@ fn bin_show_says_the_same() {
         ),
         string(KeyContainsOnlyWhitespace { item_offset: a }, &[WHICH, 4001]),
     ];
-    let found: Vec<String> = arms(&source, "StringError")
+    let found: Vec<String> = arms(&source, "StringError", 1)
         .into_iter()
         .map(|(_, text)| text)
         .collect();
@@ -126,10 +148,10 @@ fn bin_show_says_the_same() {
         };
         said(refusal, &[previous_end.into(), conflicting_end.into()])
     };
-    let (_, code) = source.split_once("fn end_words(").unwrap();
-    let (code, _) = code.split_once("\n}\n").unwrap();
-    let found: Vec<String> = code.split("told(").skip(1).map(printed).collect();
-    assert_eq!(found, [end(4002, 4001), end(4001, 4002)]);
+    assert_eq!(
+        printed_for("ConflictingEnd"),
+        [end(4002, 4001), end(4001, 4002)]
+    );
 
     let length = |len_source| {
         let refusal = Refusal::OptionLen {
@@ -140,9 +162,10 @@ fn bin_show_says_the_same() {
         };
         said(refusal, &[4001, 4002, WHICH, 6001])
     };
-    let found = arms(&source, "LengthSource");
-    assert_eq!(found[0].1, length(LenSource::Slice));
-    assert_eq!(found[1].1, length(LenSource::SdOptionLength));
+    assert_eq!(
+        printed_for("OptionLength"),
+        [length(LenSource::Slice), length(LenSource::SdOptionLength)]
+    );
 
     use Refusal::*;
     let one = &[4001][..];
@@ -219,10 +242,11 @@ fn bin_show_says_the_same() {
         (CountFull, &[]),
     ]
     .map(|(refusal, values): (Refusal, &[u64])| said(refusal, values));
-    let found: Vec<String> = arms(&source, "Refusal")
-        .into_iter()
-        .filter(|(name, _)| name != "ConfigurationString")
-        .map(|(_, text)| text)
+    let by_two = ["OptionLength", "ConfigurationString", "ConflictingEnd"];
+    let found: Vec<String> = refusals
+        .iter()
+        .filter(|(name, _)| !by_two.contains(&&name[..]))
+        .map(|(_, text)| text.clone())
         .collect();
     assert_eq!(found, expected);
 }

@@ -6,11 +6,12 @@ ghost use Rattle.std.specs.Prelude.{◌≤◌};
 
 use hub::answers::Answer;
 use hub::payload::{viaductle_read, viaductle_read_message};
-use print::{number, refused, text};
-use refusal::{Numbers, numbers_of, three};
+use print::{Told, out};
+use refusal::{Numbers, Refusal};
 use sd_index::SLOTS;
 use sd_option::Settings;
-use sd_payload::{PayloadAnswer, SdHeaderFlags, SdPayload, read_message, read_payload};
+use sd_payload::{SdHeaderFlags, SdPayload, read_message, read_payload};
+use std::fmt;
 
 // The settings of a case where one of the two is on.
 pub const DISCARDING: Settings = Settings {
@@ -23,7 +24,7 @@ pub const STRICT: Settings = Settings {
     strict: true,
 };
 
-// A bit's value where it is set.
+// A bit's value where it is set; by a test, of which the check sees that the sum of two fits.
 fn bit(set: bool, value: u32) -> u32
     ensures { result ≤ value }
 {
@@ -36,42 +37,65 @@ pub fn word(settings: Settings) -> u32 {
         + bit(settings.strict, hub::settings::STRICT)
 }
 
-// Says so where an exported function told something else.
-pub fn exported(rt: &impl Print, said: Numbers, told: Answer) {
-    let values = told.values;
-    if !replay::same(said, told.number, values) {
-        text(rt, b", but C is told something else");
+// That an exported function told something else than was said, where it did.
+#[derive(Clone, Copy)]
+pub struct Exported {
+    pub said: Numbers,
+    pub told: Answer,
+}
+
+impl fmt::Display for Exported {
+    fn fmt<W: fmt::Write>(&self, f: &mut fmt::Formatter<W>) -> fmt::Result {
+        let told = self.told;
+        if replay::same(self.said, told.number, told.values) {
+            return Ok(());
+        }
+        f.write_str(", but C is told something else")
     }
 }
 
-// That it was accepted or refused.
-pub fn judged(rt: &impl Print, said: Numbers, told: Answer) {
-    if said.number == 0 {
-        text(rt, b"accepted");
-    } else {
-        refused(rt, said);
+// The same behind what was said: that it was accepted or refused.
+#[derive(Clone, Copy)]
+pub struct Judged {
+    pub said: Numbers,
+    pub told: Answer,
+}
+
+impl fmt::Display for Judged {
+    fn fmt<W: fmt::Write>(&self, f: &mut fmt::Formatter<W>) -> fmt::Result {
+        let said = self.said;
+        let told = self.told;
+        if said.number == 0 {
+            f.write_str("accepted")?;
+        } else {
+            write!(f, "{}", Told(said))?;
+        }
+        write!(f, "{}", Exported { said, told })
     }
-    exported(rt, said, told);
 }
 
 // A line: what was read, and that it was accepted or refused.
-pub fn answer(rt: &impl Print, name: &[u8], said: Numbers, told: Answer) {
-    text(rt, name);
-    text(rt, b": ");
-    judged(rt, said, told);
-    text(rt, b"\n");
+pub fn answer(rt: &impl Print, name: &str, said: Numbers, told: Answer) {
+    out(rt, format_args!("{name}: {}\n", Judged { said, told }));
 }
 
 // The flags that are set.
-fn flags(rt: &impl Print, f: SdHeaderFlags) {
-    if f.reboot {
-        text(rt, b", reboot");
-    }
-    if f.unicast {
-        text(rt, b", unicast");
-    }
-    if f.explicit_initial_data_control {
-        text(rt, b", explicit initial data control");
+#[derive(Clone, Copy)]
+struct Flags(SdHeaderFlags);
+
+impl fmt::Display for Flags {
+    fn fmt<W: fmt::Write>(&self, f: &mut fmt::Formatter<W>) -> fmt::Result {
+        let flags = self.0;
+        if flags.reboot {
+            f.write_str(", reboot")?;
+        }
+        if flags.unicast {
+            f.write_str(", unicast")?;
+        }
+        if flags.explicit_initial_data_control {
+            f.write_str(", explicit initial data control")?;
+        }
+        Ok(())
     }
 }
 
@@ -81,50 +105,41 @@ fn counted(p: SdPayload) -> Numbers {
     let bits = bit(f.reboot, 0x80)
         + bit(f.unicast, 0x40)
         + bit(f.explicit_initial_data_control, 0x20);
-    three(0, bits as u64, p.entries as u64, p.options as u64)
-}
-
-// The answer to a payload is printed; answers its number and values.
-fn answered(rt: &impl Print, answer: PayloadAnswer) -> Numbers {
-    match answer {
-        PayloadAnswer::Good(p) => {
-            let f = p.flags;
-            text(rt, b"accepted");
-            flags(rt, f);
-            text(rt, b", entries ");
-            number(rt, p.entries);
-            text(rt, b", options ");
-            number(rt, p.options);
-            counted(p)
-        }
-        PayloadAnswer::Refused(refusal) => {
-            let said = numbers_of(refusal);
-            refused(rt, said);
-            said
-        }
-    }
+    Numbers::new(0, &[bits as u64, p.entries as u64, p.options as u64])
 }
 
 // A line of a payload, or of a message with one: what was accepted is told too.
-fn reading(rt: &impl Print, name: &[u8], answer: PayloadAnswer, told: Answer) {
-    text(rt, name);
-    text(rt, b": ");
-    exported(rt, answered(rt, answer), told);
-    text(rt, b"\n");
+fn reading(rt: &impl Print, name: &str, read: Result<SdPayload, Refusal>, told: Answer) {
+    match read {
+        Ok(p) => {
+            let said = counted(p);
+            out(
+                rt,
+                format_args!(
+                    "{name}: accepted{}, entries {}, options {}{}\n",
+                    Flags(p.flags),
+                    p.entries,
+                    p.options,
+                    Exported { said, told }
+                ),
+            );
+        }
+        Err(refusal) => answer(rt, name, Numbers::from(refusal), told),
+    }
 }
 
 // A payload is read.
-pub fn payload(rt: &impl Print, name: &[u8], payload: &[u8], settings: Settings) {
+pub fn payload(rt: &impl Print, name: &str, payload: &[u8], settings: Settings) {
     let mut table = [0u16; SLOTS];
-    let answer = read_payload(settings, payload, &mut table);
+    let read = read_payload(settings, payload, &mut table);
     let told = viaductle_read(payload, &mut table, word(settings));
-    reading(rt, name, answer, told);
+    reading(rt, name, read, told);
 }
 
-// A message is read.
-pub fn message(rt: &impl Print, name: &[u8], message: &[u8], settings: Settings) {
+// A message is read: as above, by two calls of other names, which a closure each would not make plainer.
+pub fn message(rt: &impl Print, name: &str, message: &[u8], settings: Settings) {
     let mut table = [0u16; SLOTS];
-    let answer = read_message(settings, message, &mut table);
+    let read = read_message(settings, message, &mut table);
     let told = viaductle_read_message(message, &mut table, word(settings));
-    reading(rt, name, answer, told);
+    reading(rt, name, read, told);
 }

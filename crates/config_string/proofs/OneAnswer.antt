@@ -1,17 +1,17 @@
 -- Any two answers that a promise of this crate allows are the same one. Assumes nothing.
+use Rattle.std.specs.Prelude.{Result}
+use Rattle.refusal.specs.declared.Refusal.{Refusal}
 use Prim.Native.Nat.{ℕ}
 use mathlib.Core.Path.{◌≡◌, sym, ◌∙◌}
 use mathlib.Core.List.{List}
 use Rattle.numbers.specs.Answers.{given, verdict}
-use Rattle.refusal.specs.declared.answers.Verdict.{Verdict}
-use Rattle.refusal.specs.declared.answers.Count.{Count}
 use Rattle.refusal.specs.Said.{verdict_said, count_said}
 use Rattle.refusal.proofs.OneToOne.{verdict_one_to_one, count_one_to_one}
 use Rattle.sd_format.specs.Strings.{read_string}
 use Rattle.config_string.specs.Items.{next_item, past}
 
-pub one_answer : (s : List ℕ) (x y : Verdict) → verdict_said x ≡ verdict (read_string s) → verdict_said y ≡ verdict (read_string s) → x ≡ y
+pub one_answer : (s : List ℕ) (x y : Result (Unit {0}) Refusal) → verdict_said x ≡ verdict (read_string s) → verdict_said y ≡ verdict (read_string s) → x ≡ y
 one_answer s x y first second = verdict_one_to_one x y (first ∙ sym second)
 
-pub one_item : (s : List ℕ) (at : ℕ) (x y : Count) → count_said x ≡ given (past at) (next_item s at) → count_said y ≡ given (past at) (next_item s at) → x ≡ y
+pub one_item : (s : List ℕ) (at : ℕ) (x y : Result ℕ Refusal) → count_said x ≡ given (past at) (next_item s at) → count_said y ≡ given (past at) (next_item s at) → x ≡ y
 one_item s at x y first second = count_one_to_one x y (first ∙ sym second)

@@ -1,4 +1,4 @@
-// The classes of bytes that a key is judged by. The class rule is proved once, over the whole table (`byte_classes`), and carried from there to each
+// The classes of bytes that a key is judged by. The class rule is proved once, over the whole table (`Classes::new`), and carried from there to each
 // byte (`class_of`).
 ghost use Rattle.std.specs.Prelude.{◌≡◌};
 ghost use Rattle.config_string.specs.Classes.{class_of, Classified};
@@ -28,17 +28,24 @@ const CLASSES: [u8; 256] = *b"\
     0000000000000000\
     0000000000000000";
 
-// The table, to be lent to `class_of`: made once for many bytes, since a constant that is indexed is made anew at each use (docs/SPEED.md).
-pub(crate) fn byte_classes() -> [u8; 256]
-    ensures { Classified result }
-{
-    CLASSES
+// The classes of all bytes, to be lent: made once for many bytes, since a constant that is indexed is made anew at each use (docs/SPEED.md).
+#[derive(Drop)]
+pub(crate) struct Classes {
+    table: [u8; 256],
+    ghost right: { Classified table },
 }
 
-// The class of a byte.
-pub(crate) fn class_of(classes: &[u8; 256], b: u8) -> u8
-    requires { Classified classes.now }
-    ensures { result ≡ class_of b }
-{
-    classes[b as usize]
+impl Classes {
+    // The table.
+    #[tactic(auto, using(crate::proofs::ClassLaws::classified), unfolding(crate::specs::Classes::class_of))]
+    pub(crate) fn new() -> Self {
+        Classes { table: CLASSES }
+    }
+
+    // The class of a byte.
+    pub(crate) fn class_of(&self, b: u8) -> u8
+        ensures { result ≡ class_of b }
+    {
+        self.table[b as usize]
+    }
 }

@@ -1,9 +1,7 @@
-pub mod Arms
 pub mod TpLaws
 pub mod AnyOrder
 pub mod ToldLaws
 pub mod FieldLaws
-pub mod ItemLaws
 pub mod PlaceLaws
 pub mod OneOutcome
 pub mod Telling

@@ -1,5 +1,8 @@
 -- The calls of a stream over words, from what those of `tp_lent`, `tp_stream` and `tp_words` promise; and what follows of calls one after the other.
 -- Assumes nothing.
+use Rattle.tp_stream.specs.declared.TpStream.{TpStream}
+use Rattle.refusal.specs.declared.answers.Step.{Step}
+use Rattle.std.specs.Prelude.{Result, Ok, ℕ}
 use Prim.Native.Nat.{ℕ, ◌+◌, ◌≤◌, ◌<◌}
 use mathlib.Core.Path.{◌≡◌, refl, sym, ap, subst, ◌∙◌}
 use mathlib.Core.Bool.{Bool, true, false, cond, false≢true}
@@ -14,11 +17,7 @@ use Rattle.numbers.specs.Answers as paper
 use Rattle.numbers.proofs.AnswerLaws.{when_hit, when_pass}
 use Rattle.numbers.proofs.RuleLaws.{refused_not_zero}
 use Rattle.refusal.specs.declared.Refusal.{Refusal}
-use Rattle.refusal.specs.declared.answers.Verdict.{Verdict}
-use Rattle.refusal.specs.declared.answers.Verdict.TheVariants as verdict
-use Rattle.refusal.specs.declared.answers.Count.{Count}
-use Rattle.refusal.specs.declared.answers.Count.TheVariants as count
-use Rattle.refusal.specs.Said.{said, verdict_said, verdict_refusal, count_said}
+use Rattle.refusal.specs.Said.{verdict_said, count_said}
 use Rattle.tp_machine.specs.Machine.{most, State, Out, begun, begin, step, opened, fed, clear, bad_state}
 use Rattle.tp_machine.specs.Taking.{Taken, complete, end_held, ready, finished, report, taking}
 use Rattle.tp_machine.specs.declared.TpRange.{TpRange}
@@ -33,7 +32,6 @@ use Rattle.tp_machine.proofs.Steps.{every_step, ready_tells, finished_length, pa
 use Rattle.tp_machine.proofs.Tests as tests
 use Rattle.tp_machine.proofs.Report.{every_report}
 use Rattle.tp_machine.proofs.Ends.{every_end}
-use Rattle.tp_stream.specs.declared.TpStep.{TpStep}
 use Rattle.tp_stream.specs.Stream.{stored, blank}
 use Rattle.tp_stream.specs.Promises.{Began, Took}
 use Rattle.tp_words.specs.Words.{size, unfit, stream_of, state_of, put}
@@ -62,7 +60,7 @@ module _ (ws : List ℕ) (limit : ℕ) where
         state = λ k. absurd (omega arith);
       }
 
-  pub begins : (s : TpStep) (r : Answer) (ws' : List ℕ) → Began limit s → size ≤ length ws → ws' ≡ put ws s.stream → r ≡ told no_values (verdict_said s.answer) → Begins ws limit r ws'
+  pub begins : (s : Step (Unit {0}) TpStream) (r : Answer) (ws' : List ℕ) → Began limit s → size ≤ length ws → ws' ≡ put ws s.after → r ≡ told no_values (verdict_said s.answer) → Begins ws limit r ws'
   unfolding begin blank
   begins s r ws' b h w e =
       let words : ws' ≡ put ws (stored blank (begin limit)) = w ∙ ap (put ws) b.begins in
@@ -71,16 +69,6 @@ module _ (ws : List ℕ) (limit : ℕ) where
         words = words;
         state = λ k. ap state_of words ∙ words_hold.stored_back ws blank (begin limit) h refl (omega arith);
       }
-
--- an acceptance told as one, and a refusal
-pub passed : {v : Verdict} {a : Answer} → v ≡ verdict.Passed → a ≡ row 0 [] → a ≡ told no_values (verdict_said v)
-passed e told-so = told-so ∙ sym (ap (λ (v : Verdict). told no_values (verdict_said v)) e)
-
-pub stopped : {v : Verdict} {a : Answer} {q r : Refusal} → v ≡ verdict.Refused q → r ≡ verdict_refusal v → a ≡ refusal_row (said r) → a ≡ told no_values (verdict_said v)
-stopped e why told-so =
-    told-so
-    ∙ ap (λ (x : Refusal). refusal_row (said x)) (why ∙ ap verdict_refusal e)
-    ∙ sym (ap (λ (v : Verdict). told no_values (verdict_said v)) e)
 
 -- ---- one segment
 
@@ -103,7 +91,7 @@ module _ (ws seg buf : List ℕ) where
       words_hold.stored_back ws (stream_of ws) out.state (fits (unfit ws) refl ((tests.good_means (state_of ws)).1 means.good)) (words_hold.read_places ws) few
   next_state (paper.refused r) e = sym ((every_step (state_of ws) seg buf).refuses r e).0
 
-  pub consumes : (v : Verdict) (ws' buf' : List ℕ) → Joins ws seg buf v ws' buf' → (a : Answer) → a ≡ told no_values (verdict_said v) → Consumes ws seg buf a ws' buf'
+  pub consumes : (v : Result (Unit {0}) Refusal) (ws' buf' : List ℕ) → Joins ws seg buf v ws' buf' → (a : Answer) → a ≡ told no_values (verdict_said v) → Consumes ws seg buf a ws' buf'
   consumes v ws' buf' j a says =
       record {
         answers = says ∙ ap (told no_values) j.answers;
@@ -113,9 +101,6 @@ module _ (ws seg buf : List ℕ) where
       }
 
 -- ---- complete, and taking
-
-pub completed : (ws : List ℕ) (b t : Bool) (r : Answer) → b ≡ complete (state_of ws) → b ≡ t → r ≡ row 0 (one_value (cond t 1 0)) → r ≡ completes ws
-completed ws b t r e k q = q ∙ ap (λ (x : Bool). row 0 (one_value (cond x 1 0))) (sym k ∙ e)
 
 -- the report that the machine gives stands in front
 in_front : (p : State) (buf : List ℕ) (end : ℕ) → (taking p buf).answer ≡ paper.accepted end → InFront p buf end (taking p buf).buffer
@@ -127,30 +112,23 @@ in_front p buf end e =
     let within : 16 + end ≤ length (finished (ready p (length buf)) buf) = omega arith in
     record { within = within; told_length = part_length p buf end e; part = part }
 
-module _ (ws buf : List ℕ) (t : Count) (buf' : List ℕ) (took : Took (stream_of ws) buf t buf') where
+module _ (ws buf : List ℕ) (t : Result ℕ Refusal) (buf' : List ℕ) (took : Took (stream_of ws) buf t buf') where
   -- as long as the buffer at most
-  pub taken_low : (end : ℕ) → t ≡ count.Good end → 16 + end ≤ length buf
+  pub taken_low : (end : ℕ) → t ≡ Ok end → 16 + end ≤ length buf
   unfolding taking
   taken_low end e = (ready_tells (state_of ws) (length buf) end (ap count_said (sym e) ∙ took.answers)).0
 
-  module _ (r : Answer) where
-    takes : r ≡ told report_values (taking (state_of ws) buf).answer → Takes ws buf r buf'
-    takes e =
-        record {
-          answers = e;
-          buffer = took.writes;
-          report = λ end q. subst (InFront (state_of ws) buf end) (sym took.writes) (in_front (state_of ws) buf end q);
-        }
-
-    pub taken : (end : ℕ) → t ≡ count.Good end → r ≡ told one_value (paper.accepted (16 + end)) → Takes ws buf r buf'
-    taken end e q = takes (q ∙ ap (told report_values) (ap count_said (sym e) ∙ took.answers))
-
-    pub taken_not : (q : Refusal) → t ≡ count.Refused q → r ≡ told one_value (count_said t) → Takes ws buf r buf'
-    taken_not q e k = takes (k ∙ ap (λ (c : Count). told one_value (count_said c)) e ∙ ap (told report_values) (ap count_said (sym e) ∙ took.answers))
+  pub takes : (r : Answer) → r ≡ told report_values (count_said t) → Takes ws buf r buf'
+  takes r e =
+      record {
+        answers = e ∙ ap (told report_values) took.answers;
+        buffer = took.writes;
+        report = λ end q. subst (InFront (state_of ws) buf end) (sym took.writes) (in_front (state_of ws) buf end q);
+      }
 
 -- ---- clearing
 
-pub clears : (ws : List ℕ) (v : Verdict) (ws' : List ℕ) → Cleared ws v ws' → (r : Answer) → r ≡ told no_values (verdict_said v) → Clears ws r ws'
+pub clears : (ws : List ℕ) (v : Result (Unit {0}) Refusal) (ws' : List ℕ) → Cleared ws v ws' → (r : Answer) → r ≡ told no_values (verdict_said v) → Clears ws r ws'
 unfolding clear
 clears ws v ws' c r q =
     record {

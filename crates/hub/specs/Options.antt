@@ -9,7 +9,6 @@ use Rattle.sd_format.specs.Layout.{lay_type, address_length}
 use Rattle.sd_field.specs.Said.{Decoded, decoded}
 use Rattle.hub.specs.declared.answers.Answer.{Answer}
 use Rattle.hub.specs.declared.options.Option.{Option}
-use Rattle.hub.specs.declared.options.Span.{Span}
 use Rattle.hub.specs.Answers.{row, refusal_row, told, one_value}
 
 -- the index: how many options there are, and the lent table after it
@@ -21,7 +20,12 @@ pub record Indexes (g : Settings) (s tab : List ℕ) (r : Answer) (tab' : List �
 
 -- ---- one option with its fields
 
--- a part of an option that it has not, and one behind its first byte, which is byte 3
+-- a part of an option: where it starts among the option's bytes, and how long it is
+pub record Span : Type 0 where
+  pub at : ℕ
+  pub len : ℕ
+
+-- one that it has not, and one behind its first byte, which is byte 3
 abbrev pub nowhere : Span
 nowhere = record { at = 0; len = 0 }
 

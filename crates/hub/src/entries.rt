@@ -1,13 +1,13 @@
 // One entry, as exported to C.
 ghost use Rattle.std.specs.Prelude.{◌≡◌};
 ghost use Rattle.sd_format.specs.Entries.{read_entry, next_entry};
-ghost use Rattle.sd_entry.specs.Said.{head_said, group_said, service_said, eventgroup_said, entry_said, answer_said};
+ghost use Rattle.sd_entry.specs.Said.{head_said, entry_said, answer_said};
 ghost use Rattle.hub.specs.Entries.{no_group, fields, entry_fields, no_entry, entry_told};
 
-use crate::answers::{Answer, accepted, bit, refused};
+use crate::answers::{Answer, accepted};
+use refusal::Refusal;
 use sd_entry::{
-    EntryAnswer, EntryCursor, EntryHead, EventGroup, EventGroupEntryType, SdEntry,
-    SdServiceEntryType, read_entry,
+    EntryCursor, EntryHead, EventGroupEntryType, SdEntry, SdServiceEntryType, read_entry,
 };
 
 // One entry: the answer of its reading, and then its fields. Those that its kind has not hold 0, and so do all after a refusal.
@@ -56,12 +56,11 @@ fn no_entry(answer: Answer) -> Entry
     }
 }
 
-// The fields of an entry of type `code`.
-fn fields_of(code: u64, head: EntryHead, minor: u32, group: EventGroup) -> Entry
-    ensures { result ≡ fields code (head_said head) minor (group_said group) }
+// The fields of an entry of type `code` that every kind has.
+fn headed(code: u64, head: EntryHead) -> Entry
+    ensures { result ≡ fields code (head_said head) 0 no_group }
 {
     Entry {
-        answer: accepted(),
         code,
         start1: head.start_index_options_1 as u64,
         start2: head.start_index_options_2 as u64,
@@ -71,39 +70,7 @@ fn fields_of(code: u64, head: EntryHead, minor: u32, group: EventGroup) -> Entry
         instance: head.instance_id as u64,
         major: head.major_version as u64,
         ttl: head.ttl as u64,
-        minor: minor as u64,
-        initial_data: bit(group.initial_data_requested),
-        counter: group.counter as u64,
-        eventgroup: group.eventgroup_id as u64,
-        reserved: group.reserved as u64,
-        spare: group.spare as u64,
-    }
-}
-
-// The fields of a service entry.
-fn service_fields(entry_type: SdServiceEntryType, head: EntryHead, minor: u32) -> Entry
-    ensures { result ≡ entry_fields (service_said entry_type (head_said head) minor) }
-{
-    let group = EventGroup {
-        reserved: 0,
-        initial_data_requested: false,
-        spare: 0,
-        counter: 0,
-        eventgroup_id: 0,
-    };
-    match entry_type {
-        SdServiceEntryType::FindService => fields_of(0x00, head, minor, group),
-        SdServiceEntryType::OfferService => fields_of(0x01, head, minor, group),
-    }
-}
-
-// The fields of an eventgroup entry.
-fn eventgroup_fields(entry_type: EventGroupEntryType, head: EntryHead, group: EventGroup) -> Entry
-    ensures { result ≡ entry_fields (eventgroup_said entry_type (head_said head) (group_said group)) }
-{
-    match entry_type {
-        EventGroupEntryType::SubscribeOrStop => fields_of(0x06, head, 0, group),
-        EventGroupEntryType::SubscribeAckOrNack => fields_of(0x07, head, 0, group),
+        ..no_entry(accepted(&[]))
     }
 }
 
@@ -116,22 +83,44 @@ fn entry_fields(entry: SdEntry) -> Entry
             entry_type,
             head,
             minor_version,
-        } => service_fields(entry_type, head, minor_version),
+        } => {
+            let code = match entry_type {
+                SdServiceEntryType::FindService => 0x00,
+                SdServiceEntryType::OfferService => 0x01,
+            };
+            Entry {
+                minor: minor_version as u64,
+                ..headed(code, head)
+            }
+        }
         SdEntry::Eventgroup {
             entry_type,
             head,
             group,
-        } => eventgroup_fields(entry_type, head, group),
+        } => {
+            let code = match entry_type {
+                EventGroupEntryType::SubscribeOrStop => 0x06,
+                EventGroupEntryType::SubscribeAckOrNack => 0x07,
+            };
+            Entry {
+                initial_data: u64::from(group.initial_data_requested),
+                counter: group.counter as u64,
+                eventgroup: group.eventgroup_id as u64,
+                reserved: group.reserved as u64,
+                spare: group.spare as u64,
+                ..headed(code, head)
+            }
+        }
     }
 }
 
 // The answer of reading an entry, with its fields.
-fn entry_answer(answer: EntryAnswer) -> Entry
+fn entry_answer(answer: Result<SdEntry, Refusal>) -> Entry
     ensures { result ≡ entry_told (answer_said answer) }
 {
     match answer {
-        EntryAnswer::Good(entry) => entry_fields(entry),
-        EntryAnswer::Refused(refusal) => no_entry(refused(refusal)),
+        Ok(entry) => entry_fields(entry),
+        Err(refusal) => no_entry(Answer::from(refusal)),
     }
 }
 
@@ -147,7 +136,5 @@ pub fn viaductle_next_entry(entries: &[u8], at: usize) -> Entry
     ensures { result ≡ entry_told (next_entry entries.now at) }
 {
     let cursor = EntryCursor { at };
-    let step = cursor.next(entries);
-    let answer = step.answer;
-    entry_answer(answer)
+    entry_answer(cursor.next(entries).answer)
 }

@@ -9,43 +9,45 @@ ghost use Rattle.config_string.specs.Items.{next_item};
 ghost use Rattle.sd_field.specs.Said.{first_said, address_said, option_said};
 ghost use Rattle.hub.specs.Answers.{told, no_values, option_values, item_values};
 ghost use Rattle.hub.specs.Settings.{settings_of};
-ghost use Rattle.hub.specs.Options.{Indexes, nowhere, behind_first, fields, option_fields, no_option, read_option_told};
+ghost use Rattle.hub.specs.Options.{Indexes, nowhere, fields, option_fields, no_option, read_option_told};
 
-use crate::answers::{
-    Answer, accepted, answer_of, bit, count_answer, found_answer, option_answer, refused,
-    verdict_answer,
-};
+use crate::answers::{Answer, accepted, located_values, one_value, passed, told};
 use crate::settings::settings_of;
-use config_string::{check_string, next_item};
-use refusal::{Count, two};
-use sd_field::{FieldsAnswer, IpAddress, OptionFirst, SdOption, code_of, read_fields};
-use sd_index::{Offset, OptionCursor, Ordinal, RunCursor, look_up, read_index};
+use config_string::{check_string, item_at};
+use sd_field::{IpAddress, OptionFirst, SdOption, code_of, read_fields};
+use sd_index::{Found, Offset, OptionCursor, Ordinal, RunCursor, look_up, read_index};
 
 // The index alone: 22, 13, then the options from the front; their offsets into the lent table, and how many there are.
 pub fn viaductle_index(options: &[u8], table: &mut [u16], settings: u32) -> Answer
     ensures { Indexes (settings_of settings) options.now table.old result table.new }
 {
-    count_answer(read_index(settings_of(settings), options, table))
+    told(read_index(settings_of(settings), options, table).map(one_value))
 }
 
 // The option of a number by the table: its type, where it starts, and how many bytes it takes; 20, 21.
+#[tactic(auto, using(crate::proofs::ToldLaws::located_told))]
 pub fn viaductle_lookup(options: &[u8], table: &[u16], count: usize, ordinal: usize) -> Answer
     ensures { result ≡ told (option_values (get_or table.now ordinal 0)) (look_up options.now table.now count ordinal) }
 {
-    found_answer(look_up(options, table, count, Ordinal(ordinal)))
+    told(look_up(options, table, count, Ordinal(ordinal)).map(located_values))
 }
 
 // The option at a place among the options part's bytes; 20 with no bytes left, otherwise as one option is refused.
+#[tactic(auto, using(crate::proofs::ToldLaws::headed_told))]
 pub fn viaductle_next_option(options: &[u8], at: usize, settings: u32) -> Answer
     ensures { result ≡ told (option_values at) (next_option (settings_of settings) options.now at) }
 {
-    let cursor = OptionCursor { at: Offset(at) };
+    let offset = Offset(at);
+    let cursor = OptionCursor { at: offset };
     let step = cursor.next(settings_of(settings), options);
-    let answer = step.answer;
-    option_answer(answer, at)
+    match step.answer {
+        Ok(head) => accepted(&located_values(Found { offset, head })),
+        Err(refusal) => Answer::from(refusal),
+    }
 }
 
 // The option of number `next` where `left` of a run are left: 20 at its end, otherwise as lookup.
+#[tactic(auto, using(crate::proofs::ToldLaws::located_told))]
 pub fn viaductle_next_of_run(
     options: &[u8],
     table: &[u16],
@@ -59,16 +61,19 @@ pub fn viaductle_next_of_run(
         next: Ordinal(next),
         left,
     };
-    let step = cursor.next(options, table, count);
-    let answer = step.answer;
-    found_answer(answer)
+    told(
+        cursor
+            .next(options, table, count)
+            .answer
+            .map(located_values),
+    )
 }
 
 // A configuration string alone: 9 with its values.
 pub fn viaductle_string(string: &[u8]) -> Answer
     ensures { result ≡ told no_values (verdict (read_string string.now)) }
 {
-    verdict_answer(check_string(string))
+    passed(check_string(string))
 }
 
 // The item at a place of a configuration string: where its bytes start, and how many they are; 20 at the closing zero and with no bytes left,
@@ -76,13 +81,9 @@ pub fn viaductle_string(string: &[u8]) -> Answer
 pub fn viaductle_next_item(string: &[u8], at: usize) -> Answer
     ensures { result ≡ told (item_values at) (next_item string.now at) }
 {
-    let answer = next_item(string, at);
-    match answer {
-        Count::Good(next) => {
-            let start = at + 1;
-            answer_of(two(0, start as u64, (next - start) as u64))
-        }
-        Count::Refused(refusal) => refused(refusal),
+    match item_at(string, at) {
+        Ok(item) => accepted(&[(at + 1) as u64, item.len() as u64]),
+        Err(refusal) => Answer::from(refusal),
     }
 }
 
@@ -124,29 +125,8 @@ fn no_option(answer: Answer) -> Option
     }
 }
 
-// A part of an option: where it starts among the option's bytes, and how long it is.
-#[derive(Clone, Copy)]
-pub struct Span {
-    pub at: u64,
-    pub len: u64,
-}
-
-// A part that the option has not.
-fn nowhere() -> Span
-    ensures { result ≡ nowhere }
-{
-    Span { at: 0, len: 0 }
-}
-
-// A part behind the option's first byte, which is byte 3.
-fn behind_first(len: usize) -> Span
-    ensures { result ≡ behind_first len }
-{
-    Span {
-        at: 4,
-        len: len as u64,
-    }
-}
+// Where the parts behind an option's first byte start, which is byte 3.
+const BEHIND_FIRST: u64 = 4;
 
 // How long an address is.
 fn address_len(address: IpAddress) -> usize
@@ -154,37 +134,19 @@ fn address_len(address: IpAddress) -> usize
 {
     match address {
         IpAddress::V4(_) => 4,
-        IpAddress::V6(_, _, _, _) => 16,
+        IpAddress::V6(_) => 16,
     }
 }
 
-// The fields of an option of that type and so many bytes.
-fn told(
-    code: u8,
-    size: usize,
-    first: OptionFirst,
-    priority: u16,
-    weight: u16,
-    address: Span,
-    protocol: u8,
-    port: u16,
-    string: Span,
-) -> Option
-    ensures { result ≡ fields code size (first_said first) priority weight address protocol port string }
+// The fields of an option of that type and so many bytes that every kind has.
+fn headed(code: u8, size: usize, first: OptionFirst) -> Option
+    ensures { result ≡ fields code size (first_said first) 0 0 nowhere 0 0 nowhere }
 {
     Option {
-        answer: accepted(),
         code: code as u64,
         size: size as u64,
-        discardable: bit(first.discardable),
-        priority: priority as u64,
-        weight: weight as u64,
-        address_at: address.at,
-        address_len: address.len,
-        protocol: protocol as u64,
-        port: port as u64,
-        string_at: string.at,
-        string_len: string.len,
+        discardable: u64::from(first.discardable),
+        ..no_option(accepted(&[]))
     }
 }
 
@@ -195,71 +157,44 @@ fn fields_of(option: SdOption, size: usize) -> Option
 {
     let code = code_of(option);
     match option {
-        SdOption::Configuration { first } => told(
-            code,
-            size,
-            first,
-            0,
-            0,
-            nowhere(),
-            0,
-            0,
-            behind_first(size - 4),
-        ),
+        SdOption::Configuration { first } => Option {
+            string_at: BEHIND_FIRST,
+            string_len: (size - 4) as u64,
+            ..headed(code, size, first)
+        },
         SdOption::LoadBalancing {
             first,
             priority,
             weight,
-        } => told(
-            code,
-            size,
-            first,
-            priority,
-            weight,
-            nowhere(),
-            0,
-            0,
-            nowhere(),
-        ),
+        } => Option {
+            priority: priority as u64,
+            weight: weight as u64,
+            ..headed(code, size, first)
+        },
         SdOption::Address {
-            role: _,
             first,
             address,
-            reserved: _,
             protocol,
             port,
-        } => told(
-            code,
-            size,
-            first,
-            0,
-            0,
-            behind_first(address_len(address)),
-            protocol,
-            port,
-            nowhere(),
-        ),
-        SdOption::Unknown { code: _, first } => told(
-            code,
-            size,
-            first,
-            0,
-            0,
-            nowhere(),
-            0,
-            0,
-            nowhere(),
-        ),
+            ..
+        } => Option {
+            address_at: BEHIND_FIRST,
+            address_len: address_len(address) as u64,
+            protocol: protocol as u64,
+            port: port as u64,
+            ..headed(code, size, first)
+        },
+        SdOption::Unknown { first, .. } => headed(code, size, first),
     }
 }
 
 // The option in front of these bytes, what it holds judged, with its fields.
+#[tactic(auto, using(crate::proofs::FieldLaws::four_bytes), unfolding(crate::specs::Options::read_option_told))]
 pub fn viaductle_read_option(option: &[u8], settings: u32) -> Option
     ensures { result ≡ read_option_told (settings_of settings) option.now }
 {
-    let answer = read_fields(settings_of(settings), option);
-    match answer {
-        FieldsAnswer::Good { option, size } => fields_of(option, size),
-        FieldsAnswer::Refused(refusal) => no_option(refused(refusal)),
+    match read_fields(settings_of(settings), option) {
+        Ok(fields) => fields_of(fields.option, fields.size),
+        Err(refusal) => no_option(Answer::from(refusal)),
     }
 }

@@ -1,68 +1,48 @@
 // A whole payload, and the message that carries one, as exported to C.
-ghost use Rattle.std.specs.Prelude.{◌≡◌, cond, ◌≤◌};
+ghost use Rattle.std.specs.Prelude.{◌≡◌};
 ghost use Rattle.sd_format.specs.Payload.{read_payload, read_message};
-ghost use Rattle.sd_payload.specs.Reads.{payload_said};
-ghost use Rattle.hub.specs.Answers.{told};
 ghost use Rattle.hub.specs.Settings.{settings_of};
 ghost use Rattle.hub.specs.Payload.{flag_bits, summary_values, nowhere, places_told, Reads};
 
-use crate::answers::{Answer, answer_of, refused};
+use crate::answers::{Answer, told};
 use crate::settings::settings_of;
-use refusal::{Count, three};
 use sd_payload::{
-    EXPLICIT_INITIAL_DATA_CONTROL, PayloadAnswer, REBOOT, SdHeaderFlags, UNICAST, judge_sizes,
+    EXPLICIT_INITIAL_DATA_CONTROL, REBOOT, SdHeaderFlags, SdPayload, UNICAST, judge_sizes,
     read_message, read_payload,
 };
-
-// A flag's bit where it is set.
-fn flag(set: bool, value: u8) -> u64
-    ensures { (result ≡ cond set value 0) × (result ≤ value) }
-{
-    if set { value as u64 } else { 0 }
-}
 
 // The three flags where byte 0 has them.
 fn flag_bits(flags: SdHeaderFlags) -> u64
     ensures { result ≡ flag_bits flags }
 {
-    flag(flags.reboot, REBOOT)
-        + flag(flags.unicast, UNICAST)
-        + flag(
-            flags.explicit_initial_data_control,
-            EXPLICIT_INITIAL_DATA_CONTROL,
-        )
+    u64::from(flags.reboot) * REBOOT as u64
+        + u64::from(flags.unicast) * UNICAST as u64
+        + u64::from(flags.explicit_initial_data_control) * EXPLICIT_INITIAL_DATA_CONTROL as u64
 }
 
-// The answer of a reading: the flags, how many entries, and how many options.
-fn payload_answer(answer: PayloadAnswer) -> Answer
-    ensures { result ≡ told summary_values (payload_said answer) }
+// A reading: its flags, how many entries, and how many options.
+fn summary_values(payload: SdPayload) -> [u64; 3]
+    ensures { result ≡ summary_values payload }
 {
-    match answer {
-        PayloadAnswer::Good(payload) => {
-            let flags = payload.flags;
-            answer_of(three(
-                0,
-                flag_bits(flags),
-                payload.entries as u64,
-                payload.options as u64,
-            ))
-        }
-        PayloadAnswer::Refused(refusal) => refused(refusal),
-    }
+    [
+        flag_bits(payload.flags),
+        payload.entries as u64,
+        payload.options as u64,
+    ]
 }
 
 // A whole payload, with the offsets of its options in the lent table: 22, then 1 to 6, the options, 10, the entries.
 pub fn viaductle_read(payload: &[u8], table: &mut [u16], settings: u32) -> Answer
     ensures { Reads (read_payload (settings_of settings) payload.now) table.old result table.new }
 {
-    payload_answer(read_payload(settings_of(settings), payload, table))
+    told(read_payload(settings_of(settings), payload, table).map(summary_values))
 }
 
 // A message with its SD header: 22, then 1 with 16, 14 to 19, and then all later bytes as the payload.
 pub fn viaductle_read_message(message: &[u8], table: &mut [u16], settings: u32) -> Answer
     ensures { Reads (read_message (settings_of settings) message.now) table.old result table.new }
 {
-    payload_answer(read_message(settings_of(settings), message, table))
+    told(read_message(settings_of(settings), message, table).map(summary_values))
 }
 
 // Where the two parts of a payload start, and how long they are.
@@ -88,14 +68,14 @@ fn nowhere() -> Places
 }
 
 // The parts of a payload that was read with this answer; they are empty after a refusal, and where the bytes' own sizes are refused.
+#[tactic(auto, using(crate::proofs::PlaceLaws::none_after_refusal, crate::proofs::PlaceLaws::none_of_bad_sizes, crate::proofs::PlaceLaws::placed_there))]
 pub fn viaductle_parts(payload: &[u8], answer: Answer) -> Places
     ensures { result ≡ places_told answer.number payload.now }
 {
     if answer.number != 0 {
         return nowhere();
     }
-    let sizes = judge_sizes(payload);
-    let Count::Good(entries) = sizes else {
+    let Ok(entries) = judge_sizes(payload) else {
         return nowhere();
     };
     let from = 12 + entries;

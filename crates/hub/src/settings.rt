@@ -11,12 +11,12 @@ pub const DISCARD: u32 = 0x1;
 // Options with an address are refused unless they carry TCP or UDP, and for multicast UDP.
 pub const STRICT: u32 = 0x2;
 
-// The settings that a word's bits tell; bits without a name are ignored.
+// The settings that a word's bits tell; bits without a name are ignored. (No `From`: both types are another crate's.)
 pub(crate) fn settings_of(word: u32) -> Settings
     ensures { settings_said result ≡ settings_of word }
 {
     Settings {
-        discard_unknown_option: word / DISCARD % 2 == 1,
-        strict: word / STRICT % 2 == 1,
+        discard_unknown_option: word & DISCARD != 0,
+        strict: word & STRICT != 0,
     }
 }

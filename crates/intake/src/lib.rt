@@ -25,24 +25,13 @@ pub fn fill<R: Read>(from: &mut R, buf: &mut [u8]) -> usize
     ensures front { result ≡ length (take result buf.new) }
     ensures bytes { Consumes (R.remaining from.old) (R.remaining from.new) (take result buf.new) }
 {
-    let mut done: usize = 0;
+    let mut done = 0;
+    // No method of `Read` that allocates nothing tells how many bytes came.
     while done < buf.len() {
-        let n = some(from, &mut buf[done..]);
-        if n == 0 {
-            return done;
-        }
+        let Ok(n @ 1..) = from.read(&mut buf[done..]) else {
+            break;
+        };
         done += n;
     }
     done
-}
-
-// One read: how many bytes came, 0 at the end.
-fn some<R: Read>(from: &mut R, buf: &mut [u8]) -> usize
-    ensures in_bounds { result ≤ length buf.new }
-    ensures bytes { Consumes (R.remaining from.old) (R.remaining from.new) (take result buf.new) }
-{
-    match from.read(buf) {
-        Ok(n) => n,
-        Err(_) => 0,
-    }
 }

@@ -3,31 +3,27 @@ ghost use Rattle.std.specs.Prelude.{◌≤◌, length};
 
 use case_lines::{answer, message, payload, word};
 use hub::options::{viaductle_index, viaductle_next_option, viaductle_read_option};
-use refusal::{Count, Numbers, none, numbers_of, one, three};
+use refusal::Numbers;
 use sd_index::{Offset, OptionCursor, SLOTS};
 use sd_option::Settings;
-use sd_option::reading::{OptionAnswer, read_option};
+use sd_option::reading::read_option;
 
 // An option alone.
-fn alone(rt: &impl Print, name: &[u8], option: &[u8], settings: Settings) {
-    let read = read_option(settings, option);
-    let said = match read {
-        OptionAnswer::Good(_) => none(0),
-        OptionAnswer::Refused(refusal) => numbers_of(refusal),
+fn alone(rt: &impl Print, name: &str, option: &[u8], settings: Settings) {
+    let said = match read_option(settings, option) {
+        Ok(_) => Numbers::new(0, &[]),
+        Err(refusal) => Numbers::from(refusal),
     };
     let told = viaductle_read_option(option, word(settings));
-    let told = told.answer;
-    answer(rt, name, said, told);
+    answer(rt, name, said, told.answer);
 }
 
 // An option at a place among others, by the cursor.
-fn by_cursor(rt: &impl Print, name: &[u8], options: &[u8], at: usize, settings: Settings) {
+fn by_cursor(rt: &impl Print, name: &str, options: &[u8], at: usize, settings: Settings) {
     let cursor = OptionCursor { at: Offset(at) };
-    let step = cursor.next(settings, options);
-    let read = step.answer;
-    let said = match read {
-        OptionAnswer::Good(head) => three(0, head.code as u64, at as u64, head.size as u64),
-        OptionAnswer::Refused(refusal) => numbers_of(refusal),
+    let said = match cursor.next(settings, options).answer {
+        Ok(head) => Numbers::new(0, &[head.code as u64, at as u64, head.size as u64]),
+        Err(refusal) => Numbers::from(refusal),
     };
     answer(
         rt,
@@ -38,12 +34,11 @@ fn by_cursor(rt: &impl Print, name: &[u8], options: &[u8], at: usize, settings: 
 }
 
 // An index.
-fn in_index(rt: &impl Print, name: &[u8], options: &[u8], settings: Settings) {
+fn in_index(rt: &impl Print, name: &str, options: &[u8], settings: Settings) {
     let mut table = [0u16; SLOTS];
-    let read = sd_index::read_index(settings, options, &mut table);
-    let said = match read {
-        Count::Good(n) => one(0, n as u64),
-        Count::Refused(refusal) => numbers_of(refusal),
+    let said = match sd_index::read_index(settings, options, &mut table) {
+        Ok(n) => Numbers::new(0, &[n as u64]),
+        Err(refusal) => Numbers::from(refusal),
     };
     answer(
         rt,
@@ -54,33 +49,33 @@ fn in_index(rt: &impl Print, name: &[u8], options: &[u8], settings: Settings) {
 }
 
 // The second option of a message that has no entries, behind an option of four bytes: each call reads its part of the message.
-pub(crate) fn by_all(rt: &impl Print, name: &[u8], bytes: &[u8], settings: Settings)
+pub(crate) fn by_all(rt: &impl Print, name: &str, bytes: &[u8], settings: Settings)
     requires { 32 ≤ length bytes.now }
 {
     let options = &bytes[28..];
     alone(rt, name, &bytes[32..], settings);
     by_cursor(
         rt,
-        b"the same by the cursor, behind another option",
+        "the same by the cursor, behind another option",
         options,
         4,
         settings,
     );
     in_index(
         rt,
-        b"the same in an index, behind another option",
+        "the same in an index, behind another option",
         options,
         settings,
     );
     payload(
         rt,
-        b"the same in a payload, behind another option",
+        "the same in a payload, behind another option",
         &bytes[16..],
         settings,
     );
     message(
         rt,
-        b"the same in a message, behind another option",
+        "the same in a message, behind another option",
         bytes,
         settings,
     );

@@ -4,14 +4,12 @@
 // says so.
 #![tactic(auto)]
 
-use big_endian::be32;
-use case_lines::{exported, judged};
-use hub::tp::{viaductle_consume, viaductle_take};
-use print::{bytes, coded, number, text};
-use refusal::{Count, numbers_of, one};
-use tp_pieces::{ROOM, begun, said_of};
-use tp_stream::TpStream;
-use tp_words::WORDS;
+use case_lines::{Exported, Judged};
+use hub::tp::viaductle_take;
+use print::{Bytes, out};
+use refusal::Numbers;
+use std::fmt;
+use tp_pieces::{Came, ROOM, Streams};
 
 // 0 to 16, 16 to 32, and 32 to 36, the last.
 const FRONT: [u8; 36] = *b"\
@@ -49,94 +47,89 @@ const WHOLE: [u8; 52] = *b"\
     \0\0\0\0gggggggggggggggggggggggggggggggg";
 
 // A segment's payload.
-fn payload(rt: &impl Print, segment: &[u8]) {
-    if segment.len() <= 20 {
-        text(rt, b"no byte");
-        return;
-    }
-    bytes(rt, &segment[20..]);
-}
+#[derive(Clone, Copy)]
+struct Payload<'a>(&'a [u8]);
 
-// One segment comes; its payload is printed with the answer. No bytes at all are none.
-fn comes(
-    rt: &impl Print,
-    s: TpStream,
-    segment: &[u8],
-    buf: &mut [u8],
-    words: &mut [u32],
-    other: &mut [u8],
-) -> TpStream {
-    if segment.len() == 0 {
-        return s;
+impl<'a> fmt::Display for Payload<'a> {
+    fn fmt<W: fmt::Write>(&self, f: &mut fmt::Formatter<W>) -> fmt::Result {
+        let segment = self.0;
+        if segment.len() <= 20 {
+            return f.write_str("no byte");
+        }
+        write!(f, "{}", Bytes(&segment[20..]))
     }
-    payload(rt, segment);
-    text(rt, b" ");
-    let step = tp_stream::consume(s, segment, buf);
-    let answer = step.answer;
-    judged(
-        rt,
-        said_of(answer),
-        viaductle_consume(words, segment, other),
-    );
-    text(rt, b"; ");
-    step.stream
 }
 
 // A message: its id, its length field, and what stands behind the header.
-fn message(rt: &impl Print, m: &[u8]) {
-    if m.len() < 16 {
-        return;
+#[derive(Clone, Copy)]
+struct Message<'a>(&'a [u8]);
+
+impl<'a> fmt::Display for Message<'a> {
+    fn fmt<W: fmt::Write>(&self, f: &mut fmt::Formatter<W>) -> fmt::Result {
+        let m = self.0;
+        if m.len() < 16 {
+            return Ok(());
+        }
+        let id = u32::from_be_bytes([m[0], m[1], m[2], m[3]]);
+        let length = u32::from_be_bytes([m[4], m[5], m[6], m[7]]);
+        write!(f, "{id:#010x}, length field {length}, {}", Bytes(&m[16..]))
     }
-    coded(rt, be32(m[0], m[1], m[2], m[3]) as u64, 8);
-    text(rt, b", length field ");
-    number(rt, be32(m[4], m[5], m[6], m[7]) as usize);
-    text(rt, b", ");
-    bytes(rt, &m[16..]);
 }
 
 // The report is taken; prints it, and all of the exported one's buffer.
-fn taken(rt: &impl Print, s: TpStream, buf: &mut [u8], words: &[u32], other: &mut [u8]) {
-    let answer = tp_stream::take(s, buf);
-    let told = viaductle_take(words, other);
+fn taken(rt: &impl Print, streams: &mut Streams<ROOM>) {
+    let answer = tp_stream::take(streams.here, &mut streams.buf);
+    let told = viaductle_take(&streams.words, &mut streams.other);
     match answer {
-        Count::Good(_) => {
-            let report = tp_stream::report(s, buf);
-            message(rt, report);
-            exported(rt, one(0, report.len() as u64), told);
-            text(rt, b"; exported ");
-            message(rt, other);
+        Ok(_) => {
+            let report = tp_stream::report(streams.here, &streams.buf);
+            let said = Numbers::new(0, &[report.len() as u64]);
+            out(
+                rt,
+                format_args!(
+                    "{}{}; exported {}\n",
+                    Message(report),
+                    Exported { said, told },
+                    Message(&streams.other)
+                ),
+            );
         }
-        Count::Refused(refusal) => judged(rt, numbers_of(refusal), told),
+        Err(refusal) => {
+            let said = Numbers::from(refusal);
+            out(rt, format_args!("{}\n", Judged { said, told }));
+        }
     }
-    text(rt, b"\n");
 }
 
-// Three segments come in this order, or two.
-fn order(rt: &impl Print, first: &[u8], second: &[u8], third: &[u8]) {
-    let mut buf = [b'x'; ROOM];
-    let mut other = [b'-'; ROOM];
-    let mut words = [0u32; WORDS];
-    let mut s = begun(rt, 64, &mut words);
-    s = comes(rt, s, first, &mut buf, &mut words, &mut other);
-    s = comes(rt, s, second, &mut buf, &mut words, &mut other);
-    s = comes(rt, s, third, &mut buf, &mut words, &mut other);
-    taken(rt, s, &mut buf, &words, &mut other);
+// Segments come in this order, each printed with the answer, over buffers that hold other bytes.
+fn order(rt: &impl Print, segments: &[&[u8]]) {
+    let mut streams = Streams::begun(rt, 64);
+    streams.buf = [b'x'; ROOM];
+    streams.other = [b'-'; ROOM];
+    for segment in segments {
+        let Came { said, told } = streams.brought(segment);
+        out(
+            rt,
+            format_args!("{} {}; ", Payload(segment), Judged { said, told }),
+        );
+    }
+    taken(rt, &mut streams);
 }
 
 fn main(rt: HostRuntime) {
     // Six orders, one report.
-    order(&rt, &FRONT, &MIDDLE, &BACK);
-    order(&rt, &FRONT, &BACK, &MIDDLE);
-    order(&rt, &MIDDLE, &FRONT, &BACK);
-    order(&rt, &MIDDLE, &BACK, &FRONT);
-    order(&rt, &BACK, &FRONT, &MIDDLE);
-    order(&rt, &BACK, &MIDDLE, &FRONT);
+    order(&rt, &[&FRONT, &MIDDLE, &BACK]);
+    order(&rt, &[&FRONT, &BACK, &MIDDLE]);
+    order(&rt, &[&MIDDLE, &FRONT, &BACK]);
+    order(&rt, &[&MIDDLE, &BACK, &FRONT]);
+    order(&rt, &[&BACK, &FRONT, &MIDDLE]);
+    order(&rt, &[&BACK, &MIDDLE, &FRONT]);
     // A gap: complete in neither order.
-    order(&rt, &FRONT, &LATER, &LAST);
-    order(&rt, &LAST, &FRONT, &LATER);
+    order(&rt, &[&FRONT, &LATER, &LAST]);
+    order(&rt, &[&LAST, &FRONT, &LATER]);
     // Where one is empty, or two overlap, it does matter.
-    order(&rt, &EMPTY, &ALONE, b"");
-    order(&rt, &ALONE, &EMPTY, b"");
-    order(&rt, &FRONT, &WHOLE, b"");
-    order(&rt, &WHOLE, &FRONT, b"");
+    order(&rt, &[&EMPTY, &ALONE]);
+    order(&rt, &[&ALONE, &EMPTY]);
+    order(&rt, &[&FRONT, &WHOLE]);
+    order(&rt, &[&WHOLE, &FRONT]);
 }

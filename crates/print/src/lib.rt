@@ -1,121 +1,56 @@
-// Text, numbers and refusals on standard output, for the programs. The logic has no word for what is written there, so no contract says it:
-// what a program prints is held to its file `stdout`. What cannot be written is passed over, as when nobody reads it any more.
+// What the programs print that no type of the library prints by itself: bytes, a refusal in numbers, yes or no. The logic has no word for what is
+// written on standard output, so no contract says it: what a program prints is held to its file `stdout`. `out` is what they print with.
 #![tactic(auto)]
 
-use refusal::{Numbers, PLACES};
+use refusal::Numbers;
+use std::fmt;
 
-// Text as it is.
-pub fn text(rt: &impl Print, s: &[u8]) {
-    let _ = rt.write_all(s);
+// A value on standard output, as the text of `format_args!`. What cannot be written is passed over, as when nobody reads it any more.
+pub fn out(rt: &impl Print, shown: impl fmt::Display + Drop) {
+    let _ = rt.print(shown);
 }
 
-// A number in decimal.
-pub fn decimal(rt: &impl Print, n: u64) {
-    let _ = rt.print(n);
-}
+// Bytes out of a payload: as they are where a terminal shows them, as \xNN otherwise. A backslash is spelt out too, since it stands in front of those
+// that are.
+#[derive(Clone, Copy)]
+pub struct Bytes<'a>(pub &'a [u8]);
 
-// A number in hexadecimal digits, at least so many; 16 is the most.
-pub fn hexadecimal(rt: &impl Print, n: u64, width: usize) {
-    let digits = width.min(16);
-    let _ = print!(rt; "{n:0digits$x}");
-}
-
-// A number in decimal.
-pub fn number(rt: &impl Print, n: usize) {
-    decimal(rt, n as u64);
-}
-
-// A number in hexadecimal digits, at least so many, behind 0x.
-pub fn coded(rt: &impl Print, n: u64, width: usize) {
-    text(rt, b"0x");
-    hexadecimal(rt, n, width);
-}
-
-// A line: what was counted, and how many there were.
-pub fn line(rt: &impl Print, what: &[u8], n: u32) {
-    text(rt, what);
-    text(rt, b": ");
-    number(rt, n as usize);
-    text(rt, b"\n");
-}
-
-// What stands in front of a number, and the number.
-pub fn named(rt: &impl Print, name: &[u8], n: usize) {
-    text(rt, name);
-    number(rt, n);
-}
-
-// The same with a number off the wire in hexadecimal digits.
-pub fn named_code(rt: &impl Print, name: &[u8], n: u64, width: usize) {
-    text(rt, name);
-    coded(rt, n, width);
-}
-
-// What stands in front, and yes or no.
-pub fn yes_or_no(rt: &impl Print, name: &[u8], yes: bool) {
-    text(rt, name);
-    if yes {
-        text(rt, b"yes");
-    } else {
-        text(rt, b"no");
+impl<'a> fmt::Display for Bytes<'a> {
+    fn fmt<W: fmt::Write>(&self, f: &mut fmt::Formatter<W>) -> fmt::Result {
+        for &b in self.0 {
+            match b {
+                b'\\' | ..0x20 | 0x7f.. => write!(f, "\\x{b:02x}")?,
+                _ => f.write_char(char::from(b))?,
+            }
+        }
+        Ok(())
     }
-}
-
-// A byte that a terminal shows as it is; a backslash is not, since it stands in front of those that are spelt out.
-fn is_plain(b: u8) -> bool {
-    if b < 0x20 {
-        return false;
-    }
-    if 0x7e < b {
-        return false;
-    }
-    b != 0x5c
-}
-
-fn shown(rt: &impl Print, s: &[u8], b: u8) {
-    if is_plain(b) {
-        text(rt, s);
-    } else {
-        text(rt, b"\\x");
-        hexadecimal(rt, b as u64, 2);
-    }
-}
-
-// Bytes out of a payload: as they are where a terminal shows them, as \xNN otherwise.
-pub fn bytes(rt: &impl Print, s: &[u8]) {
-    let mut i: usize = 0;
-    while i < s.len() {
-        let b = s[i];
-        let one = [b];
-        shown(rt, &one, b);
-        i += 1;
-    }
-}
-
-// A value, with what stands in front of it.
-fn value(rt: &impl Print, place: usize, v: u64) {
-    if place == 0 {
-        text(rt, b" (");
-    } else {
-        text(rt, b", ");
-    }
-    decimal(rt, v);
 }
 
 // A refusal: its number, and its values in brackets.
-pub fn refused(rt: &impl Print, n: Numbers) {
-    text(rt, b"refused, ");
-    decimal(rt, n.number);
-    let count = n.count;
-    let values = n.values;
-    let mut i: usize = 0;
-    while i < PLACES {
-        if i < count {
-            value(rt, i, values[i]);
+#[derive(Clone, Copy)]
+pub struct Told(pub Numbers);
+
+impl fmt::Display for Told {
+    fn fmt<W: fmt::Write>(&self, f: &mut fmt::Formatter<W>) -> fmt::Result {
+        let said = &self.0;
+        let number = said.number;
+        write!(f, "refused, {number}")?;
+        if said.count == 0 {
+            return Ok(());
         }
-        i += 1;
+        f.write_str(" (")?;
+        f.write_joined(said.values.iter().take(said.count), ", ")?;
+        f.write_str(")")
     }
-    if 0 < count {
-        text(rt, b")");
+}
+
+// Yes or no.
+#[derive(Clone, Copy)]
+pub struct YesNo(pub bool);
+
+impl fmt::Display for YesNo {
+    fn fmt<W: fmt::Write>(&self, f: &mut fmt::Formatter<W>) -> fmt::Result {
+        f.write_str(if self.0 { "yes" } else { "no" })
     }
 }

@@ -1,4 +1,3 @@
-pub mod Arms
 pub mod OneToOne
 pub mod PlaceLaws
 pub mod Rows

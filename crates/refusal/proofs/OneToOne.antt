@@ -1,8 +1,9 @@
 -- What the code refuses is kept apart by `said`, and so are the answers that all layers share: two of which the same is said are one. Shown by a
 -- way back. Assumes nothing.
-use Prim.Native.Nat.{ℕ}
+use Rattle.std.specs.Prelude.{ℕ, Result, Ok, Err}
 use mathlib.Core.Path.{◌≡◌, refl, sym, ap, ◌∙◌}
 use mathlib.Core.Bool.{cond}
+use native.Mathlib.Omega.{arith}
 use lib.ListN.{get_or}
 use lib.Dec.{eqb}
 use Rattle.numbers.specs.Refusals as paper
@@ -14,12 +15,8 @@ use Rattle.refusal.specs.declared.StringError.TheVariants as string
 use Rattle.refusal.specs.declared.Refusal.{Refusal}
 use Rattle.refusal.specs.declared.Refusal.TheVariants as code
 use Rattle.numbers.specs.Answers.{Answer, refused}
-use Rattle.numbers.proofs.AnswerLaws.{not_refused, accepted_inj, refused_inj}
-use Rattle.refusal.specs.declared.answers.Verdict.{Verdict}
-use Rattle.refusal.specs.declared.answers.Verdict.TheVariants as verdict
-use Rattle.refusal.specs.declared.answers.Count.{Count}
-use Rattle.refusal.specs.declared.answers.Count.TheVariants as count
-use Rattle.refusal.specs.Said.{said, verdict_said, count_said}
+use Rattle.numbers.proofs.AnswerLaws.{accepted_inj, refused_inj}
+use Rattle.refusal.specs.Said.{said, said_by, verdict_said, count_said}
 
 -- ---- back from a number, its values, `v`, and its place, `p`; anything for what is never said
 
@@ -82,45 +79,7 @@ byte_of (told p) = p
 
 back : (r : Refusal) → refusal_of (said r).number (value (said r)) (byte_of (said r).place) ≡ r
 unfolding refusal_of source_of string_of value
-back (code.UnexpectedEndOfSlice a) = refl
-back (code.EntriesLengthTooLarge a) = refl
-back (code.EntriesLengthUneven a) = refl
-back (code.OptionsLengthTooLarge a) = refl
-back (code.PayloadTooLarge a) = refl
-back (code.PayloadLengthMismatch a b) = refl
-back (code.OptionLength a b Slice p) = refl
-back (code.OptionLength a b OptionLength p) = refl
-back (code.OptionLengthZero p) = refl
-back (code.ConfigurationString string.MissingTerminator p) = refl
-back (code.ConfigurationString (string.ItemLengthExceedsRemaining a b c) p) = refl
-back (code.ConfigurationString (string.TrailingDataAfterTerminator a) p) = refl
-back (code.ConfigurationString (string.EmptyKey a) p) = refl
-back (code.ConfigurationString (string.InvalidKeyByte a b c) p) = refl
-back (code.ConfigurationString (string.KeyContainsOnlyWhitespace a) p) = refl
-back (code.UnknownOption a p) = refl
-back (code.UnknownEntry a) = refl
-back (code.RunOutOfBounds a b c d) = refl
-back (code.IndexTooLarge a) = refl
-back (code.MessageId a) = refl
-back (code.ClientId a) = refl
-back code.SessionZero = refl
-back (code.InterfaceVersion a) = refl
-back (code.MessageType a) = refl
-back (code.ReturnCode a) = refl
-back code.NothingThere = refl
-back code.TableMisfit = refl
-back (code.FewSlots a) = refl
-back (code.WrongProtocol a p) = refl
-back code.NotASegment = refl
-back (code.SegmentTooBig a b c) = refl
-back (code.UnalignedTpPayloadLen a b) = refl
-back (code.ConflictingEnd a b) = refl
-back (code.BufferTooShort a) = refl
-back code.RangesFull = refl
-back (code.LimitTooLarge a) = refl
-back code.NotComplete = refl
-back code.MalformedState = refl
-back code.CountFull = refl
+back r = grind arith
 
 pub one_to_one : (x y : Refusal) → said x ≡ said y → x ≡ y
 one_to_one x y same = sym (back x) ∙ ap (λ (r : paper.Refusal). refusal_of r.number (value r) (byte_of r.place)) same ∙ back y
@@ -131,14 +90,15 @@ one_to_one x y same = sym (back x) ∙ ap (λ (r : paper.Refusal). refusal_of r.
 pub same_refusal : {A : Type 0} (x y : Refusal) → ◌≡◌ {A = Answer A} (refused (said x)) (refused (said y)) → x ≡ y
 same_refusal {A} x y same = one_to_one x y (refused_inj {A = A} (said x) (said y) same)
 
-pub verdict_one_to_one : (x y : Verdict) → verdict_said x ≡ verdict_said y → x ≡ y
-verdict_one_to_one verdict.Passed verdict.Passed same = refl
-verdict_one_to_one verdict.Passed (verdict.Refused r) same = not_refused (said r) tt (sym same)
-verdict_one_to_one (verdict.Refused r) verdict.Passed same = not_refused (said r) tt same
-verdict_one_to_one (verdict.Refused r) (verdict.Refused q) same = ap verdict.Refused (same_refusal r q same)
+-- whose words keep apart what was accepted
+pub said_one_to_one : {A B : Type 0} (f : A → B) → ((a b : A) → f a ≡ f b → a ≡ b) → (x y : Result A Refusal) → said_by f x ≡ said_by f y → x ≡ y
+said_one_to_one f apart (Ok a) (Ok b) same = ap Ok (apart a b (accepted_inj (f a) (f b) same))
+said_one_to_one f apart (Ok a) (Err r) same = cc
+said_one_to_one f apart (Err r) (Ok a) same = cc
+said_one_to_one f apart (Err r) (Err q) same = ap Err (same_refusal r q same)
 
-pub count_one_to_one : (x y : Count) → count_said x ≡ count_said y → x ≡ y
-count_one_to_one (count.Good n) (count.Good m) same = ap count.Good (accepted_inj n m same)
-count_one_to_one (count.Good n) (count.Refused r) same = not_refused (said r) n (sym same)
-count_one_to_one (count.Refused r) (count.Good n) same = not_refused (said r) n same
-count_one_to_one (count.Refused r) (count.Refused q) same = ap count.Refused (same_refusal r q same)
+pub verdict_one_to_one : (x y : Result (Unit {0}) Refusal) → verdict_said x ≡ verdict_said y → x ≡ y
+verdict_one_to_one = said_one_to_one _ (λ a b same. refl)
+
+pub count_one_to_one : (x y : Result ℕ Refusal) → count_said x ≡ count_said y → x ≡ y
+count_one_to_one = said_one_to_one _ (λ n m same. same)

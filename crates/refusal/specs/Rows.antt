@@ -1,6 +1,6 @@
 -- The rules' table of numbers, row by row in literal numbers, for each case of the code: what `said` is shown to give. No name of a refusal's
 -- definition is used here. Assumes nothing: these are definitions.
-use Rattle.std.specs.Prelude.{ℕ, ◌+◌, ◌<◌, ◌≤◌, ◌≡◌, [], ◌∷◌, length, take, get_or}
+use Rattle.std.specs.Prelude.{ℕ, ◌+◌, ◌<◌, ◌≤◌, ◌≡◌, [], ◌∷◌, length, take, get_or, Ok, Err}
 use Rattle.numbers.specs.Refusals as paper
 use Rattle.numbers.specs.Refusals.{refusal, ◌at_byte◌, untold, told, gives}
 use Rattle.numbers.specs.Answers.{accepted, refused}
@@ -8,8 +8,6 @@ use Rattle.refusal.specs.declared.LengthSource.TheVariants.{Slice, OptionLength}
 use Rattle.refusal.specs.declared.StringError.TheVariants as string
 use Rattle.refusal.specs.declared.Refusal.{Refusal}
 use Rattle.refusal.specs.declared.Refusal.TheVariants as code
-use Rattle.refusal.specs.declared.answers.Verdict.TheVariants as verdict
-use Rattle.refusal.specs.declared.answers.Count.TheVariants as count
 use Rattle.refusal.specs.declared.values.Numbers.{Numbers}
 use Rattle.refusal.specs.Said.{said, verdict_said, count_said, places, laid, capped, moved_capped}
 
@@ -73,10 +71,10 @@ pub record Rows : Type 0 where
   pub rows : (r : Refusal) → said r ≡ row r
   pub never_zero : (r : Refusal) → 0 < (said r).number
   -- the answers that all layers share
-  pub passed : verdict_said verdict.Passed ≡ accepted tt
-  pub verdict_refused : (r : Refusal) → verdict_said (verdict.Refused r) ≡ refused (row r)
-  pub counted : (n : ℕ) → count_said (count.Good n) ≡ accepted n
-  pub count_refused : (r : Refusal) → count_said (count.Refused r) ≡ refused (row r)
+  pub passed : verdict_said (Ok tt) ≡ accepted tt
+  pub verdict_refused : (r : Refusal) → verdict_said (Err r) ≡ refused (row r)
+  pub counted : (n : ℕ) → count_said (Ok n) ≡ accepted n
+  pub count_refused : (r : Refusal) → count_said (Err r) ≡ refused (row r)
   -- as data: there are places for all values
   pub few : (r : Refusal) → length (gives (row r)) ≤ places
   pub data_of : (r : Refusal) → Data (row r) (laid (said r))

@@ -1,6 +1,6 @@
 -- The rules' number and values for everything that the code refuses, and what the answers say that all layers share. Assumes nothing:
 -- these are definitions.
-use Rattle.std.specs.Prelude.{ℕ, zero, suc, cond, List, [], ◌∷◌, length, ltb}
+use Rattle.std.specs.Prelude.{ℕ, zero, suc, cond, List, [], ◌∷◌, length, ltb, Result, Ok, Err}
 use Rattle.numbers.specs.Refusals as paper
 use Rattle.numbers.specs.Refusals.{◌at_byte◌, Place, untold, told}
 use Rattle.numbers.specs.Answers as answers
@@ -10,10 +10,6 @@ use Rattle.refusal.specs.declared.StringError.{StringError}
 use Rattle.refusal.specs.declared.StringError.TheVariants as string
 use Rattle.refusal.specs.declared.Refusal.{Refusal}
 use Rattle.refusal.specs.declared.Refusal.TheVariants as code
-use Rattle.refusal.specs.declared.answers.Verdict.{Verdict}
-use Rattle.refusal.specs.declared.answers.Verdict.TheVariants as verdict
-use Rattle.refusal.specs.declared.answers.Count.{Count}
-use Rattle.refusal.specs.declared.answers.Count.TheVariants as count
 use Rattle.refusal.specs.declared.values.Numbers.{Numbers}
 
 -- 0 for the slice, 1 for the option's length
@@ -65,24 +61,25 @@ said code.NotComplete = paper.not_complete
 said code.MalformedState = paper.malformed_state
 said code.CountFull = paper.count_full
 
--- ---- the answers that all layers share
+-- ---- answers
 
-abbrev pub verdict_said : Verdict → answers.Verdict
-verdict_said verdict.Passed = answers.pass
-verdict_said (verdict.Refused r) = answers.refused (said r)
+-- what an answer of the code says: what was accepted, in the words of `f`, or the refusal
+abbrev pub said_by : {A B : Type 0} → (A → B) → Result A Refusal → answers.Answer B
+said_by f (Ok a) = answers.accepted (f a)
+said_by f (Err r) = answers.refused (said r)
 
-abbrev pub count_said : Count → answers.Answer ℕ
-count_said (count.Good n) = answers.accepted n
-count_said (count.Refused r) = answers.refused (said r)
+-- of which only pass or refusal counts
+abbrev pub verdict_said : Result (Unit {0}) Refusal → answers.Verdict
+verdict_said = said_by (λ u. tt)
+
+-- that is a count: of options, of bytes, up to where
+abbrev pub count_said : Result ℕ Refusal → answers.Answer ℕ
+count_said = said_by (λ n. n)
 
 -- the refusal in an answer; where there is none it is never asked for
-abbrev pub verdict_refusal : Verdict → Refusal
-verdict_refusal verdict.Passed = code.NothingThere
-verdict_refusal (verdict.Refused r) = r
-
-abbrev pub count_refusal : Count → Refusal
-count_refusal (count.Good n) = code.NothingThere
-count_refusal (count.Refused r) = r
+abbrev pub refusal_in : {A : Type 0} → Result A Refusal → Refusal
+refusal_in (Ok a) = code.NothingThere
+refusal_in (Err r) = r
 
 -- ---- as data
 

@@ -1,43 +1,22 @@
-// The answers that all layers share.
+// What the answers of all layers share: the refusal in one, and what a call by value gives back.
 ghost use Rattle.std.specs.Prelude.{◌≡◌};
-ghost use Rattle.refusal.specs.Said.{verdict_refusal, count_refusal};
+ghost use Rattle.refusal.specs.Said.{refusal_in};
 
 use crate::Refusal;
 
-// An answer of which only pass or refusal counts.
-#[derive(Clone, Copy)]
-pub enum Verdict {
-    Passed,
-    Refused(Refusal),
-}
-
-// An answer that is a count: of options, of bytes, up to where.
-#[derive(Clone, Copy)]
-pub enum Count {
-    Good(usize),
-    Refused(Refusal),
-}
-
-impl Verdict {
-    // Why it was refused; 20 where it was not.
-    pub fn refusal(self) -> Refusal
-        ensures { result ≡ verdict_refusal self }
-    {
-        let Verdict::Refused(refusal) = self else {
-            return Refusal::NothingThere;
-        };
-        refusal
+// Why it was refused; 20 where it was not. For the `else` of a `let .. else`, which cannot bind.
+pub fn refusal_of<T: Drop>(answer: Result<T, Refusal>) -> Refusal
+    ensures { result ≡ refusal_in answer }
+{
+    match answer {
+        Ok(_) => Refusal::NothingThere,
+        Err(refusal) => refusal,
     }
 }
 
-impl Count {
-    // Why it was refused; 20 where it was not.
-    pub fn refusal(self) -> Refusal
-        ensures { result ≡ count_refusal self }
-    {
-        let Count::Refused(refusal) = self else {
-            return Refusal::NothingThere;
-        };
-        refusal
-    }
+// What a call by value gives back: its answer, and the cursor or the stream as it stands then.
+#[derive(Clone, Copy)]
+pub struct Step<T, S> {
+    pub answer: Result<T, Refusal>,
+    pub after: S,
 }

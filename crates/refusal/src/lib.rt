@@ -1,14 +1,13 @@
-// Everything that is refused, once for all layers, whose answers hold it; the rules' number and values for it; and the two answers that
-// all layers share. Offsets and lengths are `usize`, numbers off the wire have their width there.
+// Everything that is refused, once for all layers, whose answers hold it; and the rules' number and values for it. Offsets and lengths are `usize`, numbers off the wire have their width there.
 #![tactic(auto)]
 
-mod answers; // answers.rt: a verdict, and a count
+mod answers; // answers.rt: what the answers of all layers share
 mod places; // places.rt: a refusal's place, counted from further to the front
 mod values; // values.rt: the number and the values of a refusal
 
-pub use answers::{Count, Verdict};
+pub use answers::{Step, refusal_of};
 pub use places::moved;
-pub use values::{Numbers, PLACES, five, four, none, numbers_of, one, three, two};
+pub use values::{Numbers, PLACES};
 
 // What gave the length that an option was judged by.
 #[derive(Clone, Copy)]

@@ -4,17 +4,11 @@ ghost use Rattle.refusal.specs.Said.{said, capped, moved_capped};
 
 use crate::Refusal;
 
-// The largest `usize`.
-const MOST: usize = 0xffff_ffff_ffff_ffff;
-
 // A place counted from `by` bytes further to the front, at most the largest `usize`.
 fn moved_place(place: usize, by: usize) -> usize
     ensures { result ≡ capped (by + place) }
 {
-    if MOST - by < place {
-        return MOST;
-    }
-    by + place
+    by.saturating_add(place)
 }
 
 // The same refusal, its place counted from `by` bytes further to the front; one that tells no place stays as it is.

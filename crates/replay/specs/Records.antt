@@ -1,6 +1,7 @@
 -- The parts of a record: six bytes in front (kind, setting, number, and how many words of arguments, values and checks there are), the words,
 -- the input. Assumes nothing: these are definitions.
-use Rattle.std.specs.Prelude.{ℕ, ◌+◌, ◌*◌, ◌≡◌, ◌↔◌, Bool, true, false, ◌&&◌, cond, List, [], ◌∷◌, eqb, ltb, get_or, drop}
+use Rattle.std.specs.Prelude.{ℕ, ◌+◌, ◌*◌, ◌≡◌, ◌↔◌, Bool, true, ◌&&◌, cond, List, [], ◌∷◌, eqb, ltb, get_or, drop}
+use Rattle.std.specs.Cmp.Lexicographic.{pointwise}
 use Rattle.numbers.specs.Bytes.{at32}
 use Rattle.refusal.specs.declared.values.Numbers.{Numbers}
 use Rattle.refusal.specs.Said.{places, padded}
@@ -36,16 +37,9 @@ answer_of r = record {
 abbrev pub input_of : List ℕ → List ℕ
 input_of r = drop (6 + 4 * (arguments r + values r + checks r)) r
 
--- whether two lists are the same, element by element
-unfoldable pub equal : List ℕ → List ℕ → Bool
-equal [] [] = true
-equal [] (y ∷ ys) = false
-equal (x ∷ xs) [] = false
-equal (x ∷ xs) (y ∷ ys) = eqb x y && equal xs ys
-
 -- whether a number with these values is the recorded answer: the number, and the values in all their places
 abbrev pub alike : Numbers → (number : ℕ) → List ℕ → Bool
-alike recorded number vs = eqb recorded.number number && equal recorded.values vs
+alike recorded number vs = eqb recorded.number number && pointwise eqb recorded.values vs
 
 -- they are alike exactly when they are equal
 abbrev pub AlikeExactly : Type 0

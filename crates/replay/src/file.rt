@@ -1,6 +1,11 @@
-// The file of records: opened, and a record out of it.
-ghost use Rattle.std.specs.Prelude.{◌≡◌, ◌≤◌, length, take};
+// The file of records: opened, how many it has, a record out of it, and all of them.
+ghost use Rattle.std.specs.Prelude.{◌≡◌, ◌≤◌, ◌++◌, Bool, List, ℕ, length, take, IfSome, ◌<◌};
+ghost use Rattle.std.specs.Io.KnownBytes.{Consumes};
+ghost use Rattle.std.specs.List.{FoldsTo};
+ghost use Rattle.numbers.specs.Bytes.{at32};
+ghost use Rattle.replay.specs.Counts.{first_false};
 
+use crate::record::number;
 use big_endian::be16;
 use intake::{fill, word};
 use std::env::Env;
@@ -65,12 +70,41 @@ pub fn next_record(from: &mut impl Read, buf: &mut [u8]) -> usize
     let mut size = [0u8; 2];
     fill(from, &mut size);
     let n = be16(size[0], size[1]) as usize;
-    if buf.len() < n {
+    let Some(record) = buf.get_mut(..n) else {
         return 0;
+    };
+    if fill(from, record) < n { 0 } else { n }
+}
+
+// How many records the file has, which begins with this name and that number, in eight bytes each; none where another name stands there.
+pub fn records<R: Read>(from: &mut R, name: [u8; 8]) -> Option<u32>
+    ensures { IfSome result (λ n. (came : ℕ) × (rest : List ℕ) × Consumes (R.remaining from.old) (R.remaining from.new) (take came (name ++ rest)) × (n ≡ at32 rest 0)) }
+{
+    let mut head = [0u8; 16];
+    fill(from, &mut head);
+    if !head.starts_with(&name) {
+        return None;
     }
-    let got = fill(from, &mut buf[..n]);
-    if got < n {
-        return 0;
+    Some(number(&head, 8))
+}
+
+// All records of the file, each handed on; which is the first that does not agree, counted from 1.
+pub fn replay_all<R: Read, F: FnMut(&[u8]) -> bool>(
+    from: &mut R,
+    total: u32,
+    record: &mut [u8],
+    mut agrees: F,
+) -> Option<u32>
+    requires { F.IsAlwaysCallable agrees }
+    ensures within { IfSome result (λ n. (0 < n) × (n ≤ total)) }
+    ensures first { (answers : List Bool) × (last : F) × (length answers ≡ total) × FoldsTo (λ f answer g. (x : _) × F.step f x answer g) agrees answers last × (result ≡ first_false 1 answers) }
+{
+    let mut first = None;
+    for before in 0..total {
+        let n = next_record(from, record);
+        if !agrees(&record[..n]) {
+            first = first.or(Some(before + 1));
+        }
     }
-    n
+    first
 }

@@ -1,28 +1,30 @@
 // The parts of a record.
 ghost use Rattle.std.specs.Prelude.{◌≡◌, ◌<◌, get_or};
 ghost use Rattle.numbers.specs.Bytes.{at32};
-ghost use Rattle.replay.specs.Records.{word_of, value_of, check_of, answer_of, input_of, equal, alike};
+ghost use Rattle.replay.specs.Records.{word_of, value_of, check_of, answer_of, input_of, alike};
 
 use big_endian::be32;
-use refusal::{Numbers, PLACES, five};
+use refusal::{Numbers, PLACES};
 
 // The byte at a place.
 pub fn byte(s: &[u8], place: usize) -> u8
     ensures { result ≡ get_or s.now place 0 }
 {
-    if place < s.len() {
-        return s[place];
-    }
-    0
+    s.get(place).copied().unwrap_or(0)
 }
 
 // The number of four bytes at a place.
+#[tactic(auto, using(crate::proofs::Laws::word_at))]
 pub fn number(s: &[u8], place: u16) -> u32
     ensures { result ≡ at32 s.now place }
 {
     let at = place as usize;
-    let low = at + 2;
-    be32(byte(s, at), byte(s, at + 1), byte(s, low), byte(s, low + 1))
+    be32(
+        byte(s, at),
+        byte(s, at + 1),
+        byte(s, at + 2),
+        byte(s, at + 3),
+    )
 }
 
 // The word at a place, counted from the first argument.
@@ -61,19 +63,16 @@ pub fn check(s: &[u8], place: u8) -> u32
 pub fn recorded(s: &[u8]) -> Numbers
     ensures { result ≡ answer_of s.now }
 {
-    let answer = five(
-        byte(s, 2) as u64,
-        value(s, 0),
-        value(s, 1),
-        value(s, 2),
-        value(s, 3),
-        value(s, 4),
-    );
-    let values = answer.values;
     Numbers {
-        number: answer.number,
+        number: byte(s, 2) as u64,
         count: byte(s, 4) as usize,
-        values,
+        values: [
+            value(s, 0),
+            value(s, 1),
+            value(s, 2),
+            value(s, 3),
+            value(s, 4),
+        ],
     }
 }
 
@@ -83,33 +82,12 @@ pub fn input(s: &[u8]) -> &[u8]
 {
     let words = byte(s, 3) as usize + byte(s, 4) as usize + byte(s, 5) as usize;
     let at = 6 + 4 * words;
-    if s.len() <= at {
-        return &s[0..0];
-    }
-    &s[at..]
+    s.get(at..).unwrap_or(&[])
 }
 
-// Whether the values of two answers are the same, place by place.
-fn same_values(x: [u64; PLACES], y: [u64; PLACES]) -> bool
-    ensures { result ≡ equal x y }
-{
-    let mut i: usize = 0;
-    while i < PLACES {
-        if x[i] != y[i] {
-            return false;
-        }
-        i += 1;
-    }
-    true
-}
-
-// Whether this number with these values is the recorded answer.
+// Whether this number with these values is the recorded answer, however many it says that count.
 pub fn same(recorded: Numbers, number: u64, values: [u64; PLACES]) -> bool
     ensures { result ≡ alike recorded number values }
 {
-    if recorded.number != number {
-        return false;
-    }
-    let told = recorded.values;
-    same_values(told, values)
+    recorded.number == number && recorded.values == values
 }

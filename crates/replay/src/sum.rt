@@ -14,23 +14,13 @@ pub fn add_byte(sum: u32, b: u8) -> u32
 pub fn add_bytes(sum: u32, bytes: &[u8]) -> u32
     ensures { result ≡ sum_bytes sum bytes.now }
 {
-    let mut s = sum;
-    let mut i: usize = 0;
-    while i < bytes.len() {
-        s = add_byte(s, bytes[i]);
-        i += 1;
-    }
-    s
+    bytes.iter().fold(sum, |so_far, b| add_byte(so_far, *b))
 }
 
 // A sum with a number more, as its four bytes, the high one first.
+#[tactic(auto, using(crate::proofs::Laws::number_bytes))]
 pub fn add_number(sum: u32, n: u32) -> u32
     ensures { result ≡ sum_bytes sum (be32 n) }
 {
-    let high = n / 65536;
-    let low = n % 65536;
-    let a = add_byte(sum, (high / 256) as u8);
-    let b = add_byte(a, (high % 256) as u8);
-    let c = add_byte(b, (low / 256) as u8);
-    add_byte(c, (low % 256) as u8)
+    add_bytes(sum, &n.to_be_bytes())
 }

@@ -46,12 +46,8 @@ pub(crate) fn many() -> [u8; 1400] {
     let mut s = [0u8; 1400];
     s[10] = 0x05;
     s[11] = 0x6c;
-    let mut at: usize = 12;
-    while at < 1397 {
-        s[at + 1] = 1;
-        s[at + 2] = 0x77;
-        s[at + 3] = 0x80;
-        at += 4;
+    for option in s[12..].chunks_exact_mut(4) {
+        option.copy_from_slice(&[0, 1, 0x77, 0x80]);
     }
     s
 }

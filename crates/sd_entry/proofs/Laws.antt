@@ -1,132 +1,94 @@
 -- What the proofs of this crate's functions cite: how the definitions of one entry go, one step at a time. Assumes nothing.
 use Prim.Native.Nat.{ℕ, ◌+◌, ◌*◌, ◌/◌, ◌%◌, ◌-◌, ◌≤◌, ◌<◌}
-use mathlib.Core.Path.{◌≡◌, refl, sym, ap, ◌∙◌}
+use mathlib.Core.Path.{◌≡◌, refl, sym, ap, ap₂, ◌∙◌}
 use mathlib.Core.Bool.{Bool, true, false, not}
 use mathlib.Core.Logic.{◌⊎◌, inl, inr, ⊎_elim}
 use mathlib.Core.List.{List}
 use native.Mathlib.Omega.{arith}
-use lib.ListN.{length, take, drop, get_or, length-take, length-drop}
-use lib.Seq.{take_all}
+use lib.ListN.{length, take, drop, get_or, length-drop}
 use lib.Dec.{eqb, leb}
 use borrow.Author.Tests.{ltb-false, eqb-true, eqb-false, lt-ltb, le-ltb, le-leb, lt-leb, eq-eqb, ne_eqb}
-use Rattle.numbers.specs.Refusals.{Refusal, unexpected_end, unknown_entry, run_out_of_bounds}
-use Rattle.numbers.specs.Answers.{Answer, accepted, refused, Verdict, pass, ◌>>=◌, ◌>>◌, given, verdict}
+use Rattle.std.specs.Array.{IsFirstChunk}
+use Rattle.numbers.specs.Refusals.{Refusal, unexpected_end, unknown_entry, run_out_of_bounds, nothing_there}
+use Rattle.numbers.specs.Answers.{accepted, refused, Verdict, pass, ◌>>=◌, ◌>>◌, given, verdict}
 use Rattle.numbers.specs.Bytes.{at16, at24, at32}
-use Rattle.numbers.proofs.AnswerLaws.{when_hit, when_pass, when_accepted, bind_pass, then_pass}
-use Rattle.sd_format.specs.Sequences.{next_at, behind, stands}
-use Rattle.sd_format.specs.Options.{has}
-use Rattle.sd_format.specs.Entries.{Head, Group, Entry, find, offer, subscribe, subscribe_ack, head_of, head, group, minor, by_type, read_entry, sixteen, next_entry, inside, judge_run, judge_runs, placed_entry}
+use Rattle.numbers.proofs.AnswerLaws.{when_hit, when_pass, when_accepted, bind_pass}
+use Rattle.numbers.proofs.ByteLaws.{take_rest, take_tab}
+use Rattle.sd_format.specs.Sequences.{next_at}
+use Rattle.sd_format.specs.Entries.{Entry, head_of, head, group, minor, by_type, read_entry, next_entry, inside, judge_run, judge_runs, placed_entry}
 use Rattle.sd_format.proofs.EntryLaws.{runs_of}
-use Rattle.refusal.specs.Said.{verdict_said}
-use Rattle.refusal.specs.declared.Refusal as code
-use Rattle.refusal.specs.declared.Refusal.TheVariants.{NothingThere}
-use Rattle.refusal.specs.declared.answers.Verdict as judged
-use Rattle.refusal.specs.declared.answers.Verdict.TheVariants.{Passed, Refused}
-use Rattle.sd_entry.specs.Said.{head_said, entry_said, answer_said}
-use Rattle.sd_entry.specs.Steps.{Stepped}
+use Rattle.sd_entry.specs.Said.{head_said, group_said, service_said, eventgroup_said}
+use Rattle.sd_entry.specs.ByName.{service_type, eventgroup_type}
+use Rattle.sd_entry.specs.declared.SdServiceEntryType.{SdServiceEntryType}
 use Rattle.sd_entry.specs.declared.SdServiceEntryType.TheVariants.{FindService, OfferService}
+use Rattle.sd_entry.specs.declared.EventGroupEntryType.{EventGroupEntryType}
 use Rattle.sd_entry.specs.declared.EventGroupEntryType.TheVariants.{SubscribeOrStop, SubscribeAckOrNack}
 use Rattle.sd_entry.specs.declared.EntryHead.{EntryHead}
-use Rattle.sd_entry.specs.declared.SdEntry.{SdEntry}
-use Rattle.sd_entry.specs.declared.SdEntry.TheVariants.{Service, Eventgroup}
-use Rattle.sd_entry.specs.declared.EntryAnswer.{EntryAnswer}
-use Rattle.sd_entry.specs.declared.EntryAnswer.TheVariants as answer
-
--- ---- the fields, from the numbers that the bytes make
-
-abbrev head_with : List ℕ → (service instance ttl : ℕ) → Head
-head_with s service instance ttl =
-    record {
-      start1 = get_or s 1 0;
-      start2 = get_or s 2 0;
-      count1 = get_or s 3 0 / 16;
-      count2 = get_or s 3 0 % 16;
-      service = service;
-      instance = instance;
-      major = get_or s 8 0;
-      ttl = ttl;
-    }
-
-pub head_made : (s : List ℕ) {service instance ttl : ℕ} → service ≡ get_or s 4 0 * 256 + get_or s 5 0 → instance ≡ get_or s 6 0 * 256 + get_or s 7 0
-    → ttl ≡ get_or s 9 0 * 65536 + (get_or s 10 0 * 256 + get_or s 11 0) → head_with s service instance ttl ≡ head s
-unfolding head at16 at24
-head_made s p q t = λ i. head_with s (p i) (q i) (t i)
-
-abbrev group_with : List ℕ → (eventgroup : ℕ) → Group
-group_with s eventgroup =
-    record {
-      reserved = get_or s 12 0;
-      initial_data = has (get_or s 13 0) 0x80;
-      spare = get_or s 13 0 / 16 % 8;
-      counter = get_or s 13 0 % 16;
-      eventgroup = eventgroup;
-    }
-
-pub group_made : (s : List ℕ) {eventgroup : ℕ} → eventgroup ≡ get_or s 14 0 * 256 + get_or s 15 0 → group_with s eventgroup ≡ group s
-unfolding group at16
-group_made s p = λ i. group_with s (p i)
-
-pub minor_made : (s : List ℕ) {m : ℕ} → m ≡ (get_or s 12 0 * 256 + get_or s 13 0) * 65536 + (get_or s 14 0 * 256 + get_or s 15 0) → m ≡ minor s
-unfolding at32 at16
-minor_made s p = p
+use Rattle.sd_entry.specs.declared.EventGroup.{EventGroup}
 
 -- ---- the type decides
 
-module _ (s : List ℕ) (type : ℕ) where
-  pub is_find : type ≡ 0x00 → by_type type s ≡ accepted (find (head s) (minor s))
-  unfolding by_type
-  is_find e = rw e
+by_service : (t : SdServiceEntryType) (s : List ℕ) → by_type (service_type t) s ≡ accepted (service_said t (head s) (minor s))
+unfolding by_type
+by_service FindService s = refl
+by_service OfferService s = refl
 
-  pub is_offer : type ≡ 0x01 → by_type type s ≡ accepted (offer (head s) (minor s))
-  unfolding by_type
-  is_offer e = rw e
+by_eventgroup : (t : EventGroupEntryType) (s : List ℕ) → by_type (eventgroup_type t) s ≡ accepted (eventgroup_said t (head s) (group s))
+unfolding by_type
+by_eventgroup SubscribeOrStop s = refl
+by_eventgroup SubscribeAckOrNack s = refl
 
-  pub is_subscribe : type ≡ 0x06 → by_type type s ≡ accepted (subscribe (head s) (group s))
-  unfolding by_type
-  is_subscribe e = rw e
+by_none : (type : ℕ) (s : List ℕ) → 2 ≤ type → (type < 6) ⊎ (8 ≤ type) → by_type type s ≡ refused (unknown_entry type)
+unfolding by_type
+by_none type s low high =
+    rw (
+      ne_eqb type 0x00 (λ e. omega arith),
+      ne_eqb type 0x01 (λ e. omega arith),
+      ne_eqb type 0x06 (λ e. ⊎_elim (λ h. omega arith) (λ h. omega arith) high),
+      ne_eqb type 0x07 (λ e. ⊎_elim (λ h. omega arith) (λ h. omega arith) high),
+    )
 
-  pub is_subscribe_ack : type ≡ 0x07 → by_type type s ≡ accepted (subscribe_ack (head s) (group s))
-  unfolding by_type
-  is_subscribe_ack e = rw e
-
-  is_unknown : 2 ≤ type → (type < 6) ⊎ (8 ≤ type) → by_type type s ≡ refused (unknown_entry type)
-  unfolding by_type
-  is_unknown low high =
-      rw (
-        ne_eqb type 0x00 (λ e. omega arith),
-        ne_eqb type 0x01 (λ e. omega arith),
-        ne_eqb type 0x06 (λ e. ⊎_elim (λ h. omega arith) (λ h. omega arith) high),
-        ne_eqb type 0x07 (λ e. ⊎_elim (λ h. omega arith) (λ h. omega arith) high),
-      )
+-- ---- one entry, from its bytes
 
 pub read_short : (s : List ℕ) → length s < 16 → read_entry s ≡ refused (unexpected_end 16)
 unfolding read_entry
 read_short s h = when_hit _ _ _ (lt-ltb (length s) 16 h)
 
-pub read_typed : (s : List ℕ) → 16 ≤ length s → read_entry s ≡ by_type (get_or s 0 0) s
+read_typed : (s : List ℕ) → 16 ≤ length s → read_entry s ≡ by_type (get_or s 0 0) s
 unfolding read_entry
 read_typed s h = when_pass _ _ _ (le-ltb (length s) 16 h)
 
-pub read_unknown : (s : List ℕ) → 16 ≤ length s → 2 ≤ get_or s 0 0 → (get_or s 0 0 < 6) ⊎ (8 ≤ get_or s 0 0) → read_entry s ≡ refused (unknown_entry (get_or s 0 0))
-read_unknown s h low high = read_typed s h ∙ is_unknown s (get_or s 0 0) low high
-
-pub read_long : (s : List ℕ) (e : Entry) → read_entry s ≡ accepted e → 16 ≤ length s
+read_long : (s : List ℕ) (e : Entry) → read_entry s ≡ accepted e → 16 ≤ length s
 unfolding read_entry
 read_long s e p = ltb-false (length s) 16 (when_accepted _ _ _ e p).0
 
--- what every entry has, whatever its kind
-abbrev head_field : SdEntry → EntryHead
-head_field (Service type h m) = h
-head_field (Eventgroup type h g) = h
+-- only the first 16 bytes are read
+by_first : (type : ℕ) (s b : List ℕ) → IsFirstChunk s b 16 → by_type type b ≡ by_type type s
+unfolding by_type head group at16 at24 at32
+by_first type s b first = ap (by_type type) (first.same ∙ take_tab 16 s first.enough)
 
-pub head_field_said : {e here : SdEntry} → e ≡ here → head_said (head_field here) ≡ head_of (entry_said e)
-head_field_said {e} this = ap (λ (x : SdEntry). head_said (head_field x)) (sym this) ∙ by_kind e
-  where
-    by_kind : (e : SdEntry) → head_said (head_field e) ≡ head_of (entry_said e)
-    by_kind (Service FindService h m) = refl
-    by_kind (Service OfferService h m) = refl
-    by_kind (Eventgroup SubscribeOrStop h g) = refl
-    by_kind (Eventgroup SubscribeAckOrNack h g) = refl
+read_first : (s b : List ℕ) → IsFirstChunk s b 16 → read_entry s ≡ by_type (get_or b 0 0) b
+read_first s b first =
+    read_typed s first.enough ∙ sym (by_first (get_or s 0 0) s b first)
+    ∙ ap (λ (type : ℕ). by_type type b) (sym (ap (λ (l : List ℕ). get_or l 0 0) (first.same ∙ take_tab 16 s first.enough)))
+
+pub read_unknown : (s b : List ℕ) → IsFirstChunk s b 16 → 2 ≤ get_or b 0 0 → (get_or b 0 0 < 6) ⊎ (8 ≤ get_or b 0 0)
+    → read_entry s ≡ refused (unknown_entry (get_or b 0 0))
+read_unknown s b first low high = read_first s b first ∙ by_none (get_or b 0 0) b low high
+
+pub read_service : (s b : List ℕ) → IsFirstChunk s b 16 → (t : SdServiceEntryType) → service_type t ≡ get_or b 0 0 → (h : EntryHead) → head_said h ≡ head b
+    → (m : ℕ) → m ≡ (get_or b 12 0 * 256 + get_or b 13 0) * 65536 + (get_or b 14 0 * 256 + get_or b 15 0)
+    → accepted (service_said t (head_said h) m) ≡ read_entry s
+unfolding at32 at16
+read_service s b first t typed h head_is m minor_is =
+    ap₂ (λ h m. accepted (service_said t h m)) head_is minor_is
+    ∙ sym (read_first s b first ∙ ap (λ (type : ℕ). by_type type b) (sym typed) ∙ by_service t b)
+
+pub read_eventgroup : (s b : List ℕ) → IsFirstChunk s b 16 → (t : EventGroupEntryType) → eventgroup_type t ≡ get_or b 0 0 → (h : EntryHead) → head_said h ≡ head b
+    → (g : EventGroup) → group_said g ≡ group b → accepted (eventgroup_said t (head_said h) (group_said g)) ≡ read_entry s
+read_eventgroup s b first t typed h head_is g group_is =
+    ap₂ (λ h g. accepted (eventgroup_said t h g)) head_is group_is
+    ∙ sym (read_first s b first ∙ ap (λ (type : ℕ). by_type type b) (sym typed) ∙ by_eventgroup t b)
 
 -- ---- the runs' rule
 
@@ -149,16 +111,6 @@ module _ (run n start count : ℕ) where
   unfolding judge_run
   run_out e = when_hit _ _ _ (ap not e)
 
--- run 1's verdict is that of both where it refuses; where it passes, run 2's is
-module _ (n start1 count1 start2 count2 : ℕ) {v : judged.Verdict} (first : verdict_said v ≡ judge_run 1 n start1 count1) where
-  pub run_1_refused : {r : code.Refusal} → v ≡ Refused r → verdict_said v ≡ judge_runs n start1 count1 start2 count2
-  unfolding judge_runs ◌>>◌
-  run_1_refused this = rw (← first, this)
-
-  pub run_1_passed : v ≡ Passed → judge_runs n start1 count1 start2 count2 ≡ judge_run 2 n start2 count2
-  unfolding judge_runs
-  run_1_passed this = then_pass _ _ (sym first ∙ ap verdict_said this)
-
 -- ---- an entry beside `n` options
 
 verdict_then : {A : Type 0} (v : Verdict) (a : A) → verdict (v >> accepted a) ≡ v
@@ -175,7 +127,7 @@ one_of_two low t a b = go (eqb t low) refl
     go false e = let d = eqb-false t low e in inr (omega arith)
 
 module _ (n : ℕ) (s : List ℕ) where
-  pub placed_refused : (r : Refusal) → read_entry s ≡ refused r → verdict (placed_entry n s) ≡ refused r
+  placed_refused : (r : Refusal) → read_entry s ≡ refused r → verdict (placed_entry n s) ≡ refused r
   unfolding placed_entry ◌>>=◌ given
   placed_refused r p = rw p
 
@@ -183,48 +135,53 @@ module _ (n : ℕ) (s : List ℕ) where
   placed_short h = placed_refused _ (read_short s h)
 
   pub placed_unknown : 16 ≤ length s → 2 ≤ get_or s 0 0 → (get_or s 0 0 < 6) ⊎ (8 ≤ get_or s 0 0) → verdict (placed_entry n s) ≡ refused (unknown_entry (get_or s 0 0))
-  placed_unknown h low high = placed_refused _ (read_unknown s h low high)
+  placed_unknown h low high = placed_refused _ (read_typed s h ∙ by_none (get_or s 0 0) s low high)
 
-  placed_read : (e : Entry) → read_entry s ≡ accepted e → verdict (placed_entry n s) ≡ runs_of n (head_of e)
+  placed_read : (e : Entry) → by_type (get_or s 0 0) s ≡ accepted e → head_of e ≡ head s → 16 ≤ length s → verdict (placed_entry n s) ≡ runs_of n (head s)
   unfolding placed_entry
-  placed_read e p = ap verdict (bind_pass (read_entry s) _ e p) ∙ verdict_then (runs_of n (head_of e)) e
+  placed_read e p said h =
+      ap verdict (bind_pass (read_entry s) _ e (read_typed s h ∙ p)) ∙ verdict_then (runs_of n (head_of e)) e ∙ ap (runs_of n) said
 
-  pub placed_known : 16 ≤ length s → (get_or s 0 0 < 2) ⊎ ((6 ≤ get_or s 0 0) × (get_or s 0 0 < 8))
-      → verdict (placed_entry n s) ≡ judge_runs n (get_or s 1 0) (get_or s 3 0 / 16) (get_or s 2 0) (get_or s 3 0 % 16)
-  unfolding head
+  placed_known : 16 ≤ length s → (get_or s 0 0 < 2) ⊎ ((6 ≤ get_or s 0 0) × (get_or s 0 0 < 8)) → verdict (placed_entry n s) ≡ runs_of n (head s)
   placed_known h known =
-      let t = get_or s 0 0 in
-      let r = read_typed s h in
+      let typed = λ (t : ℕ) (e : get_or s 0 0 ≡ t). ap (λ (type : ℕ). by_type type s) e in
       ⊎_elim
-      (λ low. ⊎_elim (λ e. placed_read _ (r ∙ is_find s t e)) (λ e. placed_read _ (r ∙ is_offer s t e)) (one_of_two 0 t (omega arith) low))
-      (λ high. ⊎_elim (λ e. placed_read _ (r ∙ is_subscribe s t e)) (λ e. placed_read _ (r ∙ is_subscribe_ack s t e)) (one_of_two 6 t high.0 high.1))
+      (λ low. ⊎_elim
+      (λ e. placed_read _ (typed 0x00 e ∙ by_service FindService s) refl h)
+      (λ e. placed_read _ (typed 0x01 e ∙ by_service OfferService s) refl h)
+      (one_of_two 0 (get_or s 0 0) (omega arith) low))
+      (λ high. ⊎_elim
+      (λ e. placed_read _ (typed 0x06 e ∙ by_eventgroup SubscribeOrStop s) refl h)
+      (λ e. placed_read _ (typed 0x07 e ∙ by_eventgroup SubscribeAckOrNack s) refl h)
+      (one_of_two 6 (get_or s 0 0) high.0 high.1))
       known
+
+  module _ (long : 16 ≤ length s) (known : (get_or s 0 0 < 2) ⊎ ((6 ≤ get_or s 0 0) × (get_or s 0 0 < 8))) where
+    -- run 1 is judged before run 2
+    pub placed_first : (r : Refusal) → judge_run 1 n (get_or s 1 0) (get_or s 3 0 / 16) ≡ refused r → verdict (placed_entry n s) ≡ refused r
+    unfolding head judge_runs ◌>>◌
+    placed_first r e = placed_known long known ∙ rw e refl
+
+    pub placed_second : judge_run 1 n (get_or s 1 0) (get_or s 3 0 / 16) ≡ pass → verdict (placed_entry n s) ≡ judge_run 2 n (get_or s 2 0) (get_or s 3 0 % 16)
+    unfolding head judge_runs ◌>>◌
+    placed_second e = placed_known long known ∙ rw e refl
 
 -- ---- the cursor
 
--- a step: the answer `a`, known to be `here`, and where the cursor stands by it
-stepped : (s : List ℕ) (at place : ℕ) {a here : EntryAnswer} → answer_said a ≡ next_entry s at → a ≡ here → place ≡ stands (behind sixteen) (answer_said here) at
-    → Stepped s at (record { answer = a; cursor = record { at = place } })
-stepped s at place {a} answer this stood =
-    record { answer = answer; cursor = stood ∙ ap (λ (x : Answer Entry). stands (behind sixteen) x at) (sym (ap answer_said this) ∙ answer) }
-
-pub step_ended : (s : List ℕ) (at : ℕ) → length s ≤ at
-    → Stepped s at (record { answer = answer.Refused NothingThere; cursor = record { at = at } })
-unfolding next_at
-step_ended s at h = stepped s at at (sym (when_hit _ _ _ (le-leb (length s) at h))) refl refl
-
--- within the bytes, of which the code reads what is left
-module _ (s : List ℕ) (at : ℕ) (within : at < length s) {a here : EntryAnswer} (read : answer_said a ≡ read_entry (take (length s - at) (drop at s))) (this : a ≡ here) where
-  pub step_within : {place : ℕ} → place ≡ stands (behind sixteen) (answer_said here) at → Stepped s at (record { answer = a; cursor = record { at = place } })
+module _ (s : List ℕ) (at : ℕ) where
+  pub entry_ended : length s ≤ at → next_entry s at ≡ refused nothing_there
   unfolding next_at
-  step_within {place} stood =
-      let left : length (drop at s) ≤ length s - at = omega (arith, length-drop at s) in
-      let same = when_pass _ _ _ (lt-leb (length s) at within) ∙ ap read_entry (sym (take_all (length s - at) (drop at s) left)) in
-      stepped s at place (read ∙ sym same) this stood
+  entry_ended h = when_hit _ _ _ (le-leb (length s) at h)
 
-  -- where an entry was handed out, the cursor still stands within the bytes or at their end
-  pub step_fits : {e : SdEntry} → here ≡ answer.Good e → at + 16 ≤ length s
-  step_fits {e} good =
-      let left : length (take (length s - at) (drop at s)) ≤ length s - at = omega (arith, length-take (length s - at) (drop at s)) in
-      let long = read_long (take (length s - at) (drop at s)) (entry_said e) (sym read ∙ ap answer_said (this ∙ good)) in
-      omega arith
+  -- within the bytes, of which the code reads what is left
+  pub entry_within : at < length s → next_entry s at ≡ read_entry (take (length s - at) (drop at s))
+  unfolding next_at
+  entry_within h = when_pass _ _ _ (lt-leb (length s) at h) ∙ ap read_entry (sym (take_rest s at))
+
+  -- behind an entry that was handed out the cursor still stands within the bytes or at their end
+  pub entry_fits : (e : Entry) → accepted e ≡ next_entry s at → at + 16 ≤ length s
+  unfolding next_at
+  entry_fits e p =
+      let (within, read) = when_accepted _ _ _ e (sym p) in
+      let long = read_long (drop at s) e read in
+      omega (arith, long, length-drop at s)

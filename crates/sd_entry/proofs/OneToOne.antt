@@ -1,26 +1,34 @@
 -- Each promise of this crate allows one outcome: the code's entries and answers are kept apart by what is said of them.
 -- Assumes nothing.
+use Rattle.refusal.specs.declared.answers.Step.{Step}
+use Rattle.std.specs.Prelude.{Result, Ok, Err}
+use Rattle.refusal.specs.declared.Refusal.{Refusal}
+use Rattle.refusal.specs.declared.Refusal.TheVariants.{UnknownEntry}
 use Prim.Native.Nat.{ℕ}
 use mathlib.Core.Path.{◌≡◌, refl, sym, ap, ◌∙◌}
+use mathlib.Core.Bool.{cond}
+use mathlib.Core.Logic.{⊎_elim}
 use mathlib.Core.List.{List}
+use native.Mathlib.Omega.{arith}
+use lib.Dec.{eqb}
+use borrow.Author.Tests.{ne_eqb}
 use Rattle.numbers.specs.Answers.{verdict}
 use Rattle.numbers.proofs.AnswerLaws.{accepted_inj, not_refused}
 use Rattle.sd_format.specs.Entries.{Head, Group, Entry, find, offer, subscribe, subscribe_ack, head_of, read_entry, placed_entry}
 use Rattle.refusal.specs.Said.{verdict_said}
-use Rattle.refusal.specs.declared.answers.Verdict.{Verdict}
 use Rattle.refusal.proofs.OneToOne.{same_refusal, verdict_one_to_one}
 use Rattle.sd_entry.specs.Said.{head_said, entry_said, answer_said}
 use Rattle.sd_entry.specs.Steps.{Stepped}
+use Rattle.sd_entry.specs.Types.{ServiceTyped, EventgroupTyped}
+use Rattle.sd_entry.specs.declared.SdServiceEntryType.{SdServiceEntryType}
+use Rattle.sd_entry.specs.declared.EventGroupEntryType.{EventGroupEntryType}
 use Rattle.sd_entry.specs.declared.SdServiceEntryType.TheVariants.{FindService, OfferService}
 use Rattle.sd_entry.specs.declared.EventGroupEntryType.TheVariants.{SubscribeOrStop, SubscribeAckOrNack}
 use Rattle.sd_entry.specs.declared.EntryHead.{EntryHead}
 use Rattle.sd_entry.specs.declared.EventGroup.{EventGroup}
 use Rattle.sd_entry.specs.declared.SdEntry.{SdEntry}
 use Rattle.sd_entry.specs.declared.SdEntry.TheVariants.{Service, Eventgroup}
-use Rattle.sd_entry.specs.declared.EntryAnswer.{EntryAnswer}
-use Rattle.sd_entry.specs.declared.EntryAnswer.TheVariants.{Good, Refused}
 use Rattle.sd_entry.specs.declared.cursor.EntryCursor.{EntryCursor}
-use Rattle.sd_entry.specs.declared.cursor.EntryStep.{EntryStep}
 
 -- ---- a way back from what is said of an entry
 
@@ -69,28 +77,58 @@ head_one_to_one x y same = ap head_back same
 pub entry_one_to_one : (x y : SdEntry) → entry_said x ≡ entry_said y → x ≡ y
 entry_one_to_one x y same = sym (back x) ∙ ap entry_back same ∙ back y
 
-pub answer_one_to_one : (x y : EntryAnswer) → answer_said x ≡ answer_said y → x ≡ y
-answer_one_to_one (Good d) (Good e) same = ap Good (entry_one_to_one d e (accepted_inj _ _ same))
-answer_one_to_one (Good d) (Refused q) same = not_refused _ _ (sym same)
-answer_one_to_one (Refused r) (Good e) same = not_refused _ _ same
-answer_one_to_one (Refused r) (Refused q) same = ap Refused (same_refusal r q same)
+pub answer_one_to_one : (x y : (Result SdEntry Refusal)) → answer_said x ≡ answer_said y → x ≡ y
+answer_one_to_one (Ok d) (Ok e) same = ap Ok (entry_one_to_one d e (accepted_inj _ _ same))
+answer_one_to_one (Ok d) (Err q) same = not_refused _ _ (sym same)
+answer_one_to_one (Err r) (Ok e) same = not_refused _ _ same
+answer_one_to_one (Err r) (Err q) same = ap Err (same_refusal r q same)
 
 -- ---- any two outcomes that a promise allows are the same
 
-pub read_entry_only : (s : List ℕ) (x y : EntryAnswer) → answer_said x ≡ read_entry s → answer_said y ≡ read_entry s → x ≡ y
+pub read_entry_only : (s : List ℕ) (x y : (Result SdEntry Refusal)) → answer_said x ≡ read_entry s → answer_said y ≡ read_entry s → x ≡ y
 read_entry_only s x y p q = answer_one_to_one x y (p ∙ sym q)
 
 pub head_only : (e : SdEntry) (x y : EntryHead) → head_said x ≡ head_of (entry_said e) → head_said y ≡ head_of (entry_said e) → x ≡ y
 head_only e x y p q = head_one_to_one x y (p ∙ sym q)
 
-pub judge_entry_only : (n : ℕ) (s : List ℕ) (x y : Verdict) → verdict_said x ≡ verdict (placed_entry n s) → verdict_said y ≡ verdict (placed_entry n s) → x ≡ y
+pub judge_entry_only : (n : ℕ) (s : List ℕ) (x y : (Result (Unit {0}) Refusal)) → verdict_said x ≡ verdict (placed_entry n s) → verdict_said y ≡ verdict (placed_entry n s) → x ≡ y
 judge_entry_only n s x y p q = verdict_one_to_one x y (p ∙ sym q)
 
-pub next_only : (s : List ℕ) (at : ℕ) (x y : EntryStep) → Stepped s at x → Stepped s at y → x ≡ y
+pub next_only : (s : List ℕ) (at : ℕ) (x y : (Step SdEntry EntryCursor)) → Stepped s at x → Stepped s at y → x ≡ y
 next_only s at x y p q =
     let answer = answer_one_to_one x.answer y.answer (p.answer ∙ sym q.answer) in
     let place = p.cursor ∙ sym q.cursor in
-    λ i. record { answer = answer i; cursor = record { at = place i } }
+    λ i. record { answer = answer i; after = record { at = place i } }
 
 pub new_only : (x y : EntryCursor) → x.at ≡ 0 → y.at ≡ 0 → x ≡ y
 new_only x y p q = λ i. record { at = (p ∙ sym q) i }
+
+-- ---- a type read from its code
+
+service_back : ℕ → Result SdServiceEntryType Refusal
+service_back code = cond (eqb code 0x00) (Ok FindService) (cond (eqb code 0x01) (Ok OfferService) (Err (UnknownEntry code)))
+
+service_typed : (code : ℕ) (x : Result SdServiceEntryType Refusal) → ServiceTyped code x → x ≡ service_back code
+unfolding service_back
+service_typed code (Ok FindService) is = rw (← is) refl
+service_typed code (Ok OfferService) is = rw (← is) refl
+service_typed code (Err r) (is, none) = rw (ne_eqb code 0x00 (λ e. omega arith), ne_eqb code 0x01 (λ e. omega arith)) (ap Err is)
+
+pub service_typed_only : (code : ℕ) (x y : Result SdServiceEntryType Refusal) → ServiceTyped code x → ServiceTyped code y → x ≡ y
+service_typed_only code x y p q = service_typed code x p ∙ sym (service_typed code y q)
+
+eventgroup_back : ℕ → Result EventGroupEntryType Refusal
+eventgroup_back code = cond (eqb code 0x06) (Ok SubscribeOrStop) (cond (eqb code 0x07) (Ok SubscribeAckOrNack) (Err (UnknownEntry code)))
+
+eventgroup_typed : (code : ℕ) (x : Result EventGroupEntryType Refusal) → EventgroupTyped code x → x ≡ eventgroup_back code
+unfolding eventgroup_back
+eventgroup_typed code (Ok SubscribeOrStop) is = rw (← is) refl
+eventgroup_typed code (Ok SubscribeAckOrNack) is = rw (← is) refl
+eventgroup_typed code (Err r) (is, none) =
+    rw (
+      ne_eqb code 0x06 (λ e. ⊎_elim (λ h. omega arith) (λ h. omega arith) none),
+      ne_eqb code 0x07 (λ e. ⊎_elim (λ h. omega arith) (λ h. omega arith) none),
+    ) (ap Err is)
+
+pub eventgroup_typed_only : (code : ℕ) (x y : Result EventGroupEntryType Refusal) → EventgroupTyped code x → EventgroupTyped code y → x ≡ y
+eventgroup_typed_only code x y p q = eventgroup_typed code x p ∙ sym (eventgroup_typed code y q)

@@ -1,3 +1,4 @@
 pub mod ByName
 pub mod Said
 pub mod Steps
+pub mod Types

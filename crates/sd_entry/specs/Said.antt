@@ -1,8 +1,9 @@
 -- The code's entries and answers as those of the definitions. Assumes nothing: these are definitions.
-use Rattle.std.specs.Prelude.{ℕ}
-use Rattle.numbers.specs.Answers.{Answer, accepted, refused}
+use Rattle.refusal.specs.declared.Refusal.{Refusal}
+use Rattle.std.specs.Prelude.{ℕ, Result}
+use Rattle.numbers.specs.Answers.{Answer}
 use Rattle.sd_format.specs.Entries.{Head, Group, Entry, find, offer, subscribe, subscribe_ack}
-use Rattle.refusal.specs.Said.{said}
+use Rattle.refusal.specs.Said.{said_by}
 use Rattle.sd_entry.specs.declared.SdServiceEntryType.{SdServiceEntryType}
 use Rattle.sd_entry.specs.declared.SdServiceEntryType.TheVariants.{FindService, OfferService}
 use Rattle.sd_entry.specs.declared.EventGroupEntryType.{EventGroupEntryType}
@@ -11,8 +12,6 @@ use Rattle.sd_entry.specs.declared.EntryHead.{EntryHead}
 use Rattle.sd_entry.specs.declared.EventGroup.{EventGroup}
 use Rattle.sd_entry.specs.declared.SdEntry.{SdEntry}
 use Rattle.sd_entry.specs.declared.SdEntry.TheVariants.{Service, Eventgroup}
-use Rattle.sd_entry.specs.declared.EntryAnswer.{EntryAnswer}
-use Rattle.sd_entry.specs.declared.EntryAnswer.TheVariants.{Good, Refused}
 
 abbrev pub head_said : EntryHead → Head
 head_said h =
@@ -49,6 +48,5 @@ abbrev pub entry_said : SdEntry → Entry
 entry_said (Service type h minor) = service_said type (head_said h) minor
 entry_said (Eventgroup type h g) = eventgroup_said type (head_said h) (group_said g)
 
-abbrev pub answer_said : EntryAnswer → Answer Entry
-answer_said (Good e) = accepted (entry_said e)
-answer_said (Refused r) = refused (said r)
+abbrev pub answer_said : Result SdEntry Refusal → Answer Entry
+answer_said = said_by entry_said

@@ -1,21 +1,16 @@
 // The entry cursor: a place among the bytes of the entries part, by value, that hands out one entry after the other.
 ghost use Rattle.std.specs.Prelude.{◌≡◌};
+ghost use Rattle.sd_format.specs.Entries.{next_entry};
+ghost use Rattle.sd_entry.specs.Said.{answer_said};
 ghost use Rattle.sd_entry.specs.Steps.{Stepped};
 
-use crate::{ENTRY_LEN, EntryAnswer, read_entry};
-use refusal::Refusal;
+use crate::{ENTRY_LEN, SdEntry, read_entry};
+use refusal::{Refusal, Step};
 
 // The byte where the next entry starts.
 #[derive(Clone, Copy)]
 pub struct EntryCursor {
     pub at: usize,
-}
-
-// What a cursor answered, and where it stands then.
-#[derive(Clone, Copy)]
-pub struct EntryStep {
-    pub answer: EntryAnswer,
-    pub cursor: EntryCursor,
 }
 
 impl EntryCursor {
@@ -26,28 +21,33 @@ impl EntryCursor {
         EntryCursor { at: 0 }
     }
 
-    // The entry at the cursor among the entries `s`, and the cursor behind it; 20 with no bytes left, otherwise as `read_entry` refuses, and
-    // the cursor where it was.
-    pub fn next(self, s: &[u8]) -> EntryStep
+    // The entry at the cursor among the entries `s`; 20 with no bytes left, otherwise as `read_entry` refuses.
+    #[tactic(auto, using(crate::proofs::Laws::entry_ended, crate::proofs::Laws::entry_within))]
+    fn entry(self, s: &[u8]) -> Result<SdEntry, Refusal>
+        ensures { answer_said result ≡ next_entry s.now self.at }
+    {
+        if s.len() <= self.at {
+            return Err(Refusal::NothingThere);
+        }
+        read_entry(&s[self.at..])
+    }
+
+    // The entry at the cursor and the cursor behind it; where it is refused, the cursor where it was.
+    #[tactic(auto, using(crate::proofs::Laws::entry_fits))]
+    pub fn next(self, s: &[u8]) -> Step<SdEntry, EntryCursor>
         ensures { Stepped s.now self.at result }
     {
-        let at = self.at;
-        if s.len() <= at {
-            return EntryStep {
-                answer: EntryAnswer::Refused(Refusal::NothingThere),
-                cursor: self,
-            };
-        }
-        let answer = read_entry(&s[at..]);
-        let EntryAnswer::Good(_) = answer else {
-            return EntryStep {
-                answer,
-                cursor: self,
-            };
-        };
-        EntryStep {
-            answer,
-            cursor: EntryCursor { at: at + ENTRY_LEN },
+        match self.entry(s) {
+            Ok(entry) => Step {
+                answer: Ok(entry),
+                after: EntryCursor {
+                    at: self.at + ENTRY_LEN,
+                },
+            },
+            Err(refusal) => Step {
+                answer: Err(refusal),
+                after: self,
+            },
         }
     }
 }

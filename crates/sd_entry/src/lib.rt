@@ -5,12 +5,13 @@
 mod cursor;
 mod runs;
 
-ghost use Rattle.std.specs.Prelude.{◌≡◌, ◌≤◌, length};
-ghost use Rattle.numbers.specs.Answers.{accepted};
-ghost use Rattle.sd_format.specs.Entries.{head, group, head_of, by_type, read_entry};
+ghost use Rattle.std.specs.Prelude.{◌≡◌, ◌/◌, ◌%◌};
+ghost use Rattle.sd_format.specs.Entries.{head, group, head_of, read_entry};
 ghost use Rattle.sd_entry.specs.Said.{head_said, group_said, entry_said, answer_said};
+ghost use Rattle.sd_entry.specs.Types.{ServiceTyped, EventgroupTyped};
 
-pub use cursor::{EntryCursor, EntryStep};
+use big_endian::{be16, be24, be32};
+pub use cursor::EntryCursor;
 use refusal::Refusal;
 pub use runs::judge_entry;
 
@@ -19,9 +20,6 @@ pub const ENTRY_LEN: usize = 16;
 
 // The bit of an eventgroup entry that asks for the initial data.
 const INITIAL_DATA: u8 = 0x80;
-
-// A number of four bits is below it.
-pub(crate) const FOUR_BITS: u8 = 16;
 
 #[derive(Clone, Copy)]
 pub enum SdServiceEntryType {
@@ -72,100 +70,102 @@ pub enum SdEntry {
     },
 }
 
-#[derive(Clone, Copy)]
-pub enum EntryAnswer {
-    Good(SdEntry),
-    Refused(Refusal),
+// The high and the low four bits of a byte.
+pub(crate) fn halves(byte: u8) -> (u8, u8)
+    ensures { (result.0 ≡ byte / 16) × (result.1 ≡ byte % 16) }
+{
+    (byte >> 4, byte & 0x0f)
 }
 
-// The head of the entry in `s`.
-fn head_of(s: &[u8]) -> EntryHead
-    requires { 16 ≤ length s.now }
-    ensures { head_said result ≡ head s.now }
-{
-    let counts = s[3];
-    EntryHead {
-        start_index_options_1: s[1],
-        start_index_options_2: s[2],
-        number_of_options_1: counts / FOUR_BITS,
-        number_of_options_2: counts % FOUR_BITS,
-        service_id: big_endian::be16(s[4], s[5]),
-        instance_id: big_endian::be16(s[6], s[7]),
-        major_version: s[8],
-        ttl: big_endian::be24(s[9], s[10], s[11]),
-    }
-}
+// The type of a service entry.
+impl TryFrom<u8> for SdServiceEntryType {
+    type Error = Refusal;
 
-// The last four bytes of the eventgroup entry in `s`.
-fn group_of(s: &[u8]) -> EventGroup
-    requires { 16 ≤ length s.now }
-    ensures { group_said result ≡ group s.now }
-{
-    let bits = s[13];
-    EventGroup {
-        reserved: s[12],
-        initial_data_requested: bits / INITIAL_DATA % 2 == 1,
-        spare: bits / FOUR_BITS % 8,
-        counter: bits % FOUR_BITS,
-        eventgroup_id: big_endian::be16(s[14], s[15]),
+    ghost try_from_gives = { λ code answer. ServiceTyped code answer };
+
+    fn try_from(code: u8) -> Result<Self, Refusal> {
+        match code {
+            0x00 => Ok(SdServiceEntryType::FindService),
+            0x01 => Ok(SdServiceEntryType::OfferService),
+            _ => Err(Refusal::UnknownEntry(code)),
+        }
     }
 }
 
-// The service entry in `s`, of type `code`.
-fn service_entry(code: u8, s: &[u8]) -> SdEntry
-    requires { (code ≤ 1) × (16 ≤ length s.now) }
-    ensures { accepted (entry_said result) ≡ by_type code s.now }
-{
-    let head = head_of(s);
-    let minor_version = big_endian::be32(s[12], s[13], s[14], s[15]);
-    if code == 0x00 {
-        return SdEntry::Service {
-            entry_type: SdServiceEntryType::FindService,
-            head,
-            minor_version,
-        };
-    }
-    SdEntry::Service {
-        entry_type: SdServiceEntryType::OfferService,
-        head,
-        minor_version,
+// The type of an eventgroup entry.
+impl TryFrom<u8> for EventGroupEntryType {
+    type Error = Refusal;
+
+    ghost try_from_gives = { λ code answer. EventgroupTyped code answer };
+
+    fn try_from(code: u8) -> Result<Self, Refusal> {
+        match code {
+            0x06 => Ok(EventGroupEntryType::SubscribeOrStop),
+            0x07 => Ok(EventGroupEntryType::SubscribeAckOrNack),
+            _ => Err(Refusal::UnknownEntry(code)),
+        }
     }
 }
 
-// The eventgroup entry in `s`, of type `code`.
-fn eventgroup_entry(code: u8, s: &[u8]) -> SdEntry
-    requires { (6 ≤ code) × (code ≤ 7) × (16 ≤ length s.now) }
-    ensures { accepted (entry_said result) ≡ by_type code s.now }
-{
-    let head = head_of(s);
-    let group = group_of(s);
-    if code == 0x06 {
-        return SdEntry::Eventgroup {
-            entry_type: EventGroupEntryType::SubscribeOrStop,
-            head,
-            group,
-        };
+// What the bytes of an entry say, whatever its kind.
+impl From<&[u8; ENTRY_LEN]> for EntryHead {
+    ghost from_gives = { λ bytes said. head_said said ≡ head bytes.now };
+
+    #[tactic(auto, unfolding(sd_format::specs::Entries::head, numbers::specs::Bytes::at16, numbers::specs::Bytes::at24))]
+    fn from(bytes: &[u8; ENTRY_LEN]) -> EntryHead {
+        let (count_1, count_2) = halves(bytes[3]);
+        EntryHead {
+            start_index_options_1: bytes[1],
+            start_index_options_2: bytes[2],
+            number_of_options_1: count_1,
+            number_of_options_2: count_2,
+            service_id: be16(bytes[4], bytes[5]),
+            instance_id: be16(bytes[6], bytes[7]),
+            major_version: bytes[8],
+            ttl: be24(bytes[9], bytes[10], bytes[11]),
+        }
     }
-    SdEntry::Eventgroup {
-        entry_type: EventGroupEntryType::SubscribeAckOrNack,
-        head,
-        group,
+}
+
+// What the bytes of an eventgroup entry say.
+impl From<&[u8; ENTRY_LEN]> for EventGroup {
+    ghost from_gives = { λ bytes said. group_said said ≡ group bytes.now };
+
+    #[tactic(auto, unfolding(sd_format::specs::Entries::group, numbers::specs::Bytes::at16))]
+    fn from(bytes: &[u8; ENTRY_LEN]) -> EventGroup {
+        let bits = bytes[13];
+        let (high, counter) = halves(bits);
+        EventGroup {
+            reserved: bytes[12],
+            initial_data_requested: bits & INITIAL_DATA != 0,
+            spare: high & 0x07,
+            counter,
+            eventgroup_id: be16(bytes[14], bytes[15]),
+        }
     }
 }
 
 // The entry in front of `s`, whose later bytes are not read; 1 with 16 below 16 bytes, then 11.
-#[tactic(auto, using(crate::proofs::Laws::read_short, crate::proofs::Laws::read_typed, crate::proofs::Laws::read_unknown))]
-pub fn read_entry(s: &[u8]) -> EntryAnswer
+#[tactic(auto, using(crate::proofs::Laws::read_short, crate::proofs::Laws::read_unknown, crate::proofs::Laws::read_service, crate::proofs::Laws::read_eventgroup))]
+pub fn read_entry(s: &[u8]) -> Result<SdEntry, Refusal>
     ensures { answer_said result ≡ read_entry s.now }
 {
-    if s.len() < ENTRY_LEN {
-        return EntryAnswer::Refused(Refusal::UnexpectedEndOfSlice(ENTRY_LEN));
-    }
-    let code = s[0];
+    let Some(bytes) = s.first_chunk::<ENTRY_LEN>() else {
+        return Err(Refusal::UnexpectedEndOfSlice(ENTRY_LEN));
+    };
+    let code = bytes[0];
     match code {
-        0x00..=0x01 => EntryAnswer::Good(service_entry(code, s)),
-        0x06..=0x07 => EntryAnswer::Good(eventgroup_entry(code, s)),
-        _ => EntryAnswer::Refused(Refusal::UnknownEntry(code)),
+        0x00..=0x01 => Ok(SdEntry::Service {
+            entry_type: SdServiceEntryType::try_from(code)?,
+            head: EntryHead::from(bytes),
+            minor_version: be32(bytes[12], bytes[13], bytes[14], bytes[15]),
+        }),
+        0x06..=0x07 => Ok(SdEntry::Eventgroup {
+            entry_type: EventGroupEntryType::try_from(code)?,
+            head: EntryHead::from(bytes),
+            group: EventGroup::from(bytes),
+        }),
+        _ => Err(Refusal::UnknownEntry(code)),
     }
 }
 
@@ -175,16 +175,7 @@ impl SdEntry {
         ensures { head_said result ≡ head_of (entry_said self) }
     {
         match self {
-            SdEntry::Service {
-                entry_type: _,
-                head,
-                minor_version: _,
-            } => head,
-            SdEntry::Eventgroup {
-                entry_type: _,
-                head,
-                group: _,
-            } => head,
+            SdEntry::Service { head, .. } | SdEntry::Eventgroup { head, .. } => head,
         }
     }
 }

@@ -1,4 +1,3 @@
 pub mod FieldLaws
 pub mod OneOutcome
 pub mod Own
-pub mod PlaceLaws

@@ -1,9 +1,10 @@
 -- What the code has for an option, constructor by constructor; and the statements that reading an option that was laid out gives just that,
 -- and that its type code is the one in its layout. Written beside `option_said` and not by it: fields that are swapped in `option_said` and in the
 -- code together are refused here. proofs/Own.antt proves them. Assumes nothing: these are definitions.
-use Rattle.std.specs.Prelude.{ℕ, ◌≡◌, List, ◌++◌, length, drop}
+use Rattle.refusal.specs.declared.Refusal.{Refusal}
+use Rattle.sd_field.specs.declared.Fields.{Fields}
+use Rattle.std.specs.Prelude.{ℕ, ◌≡◌, List, ◌++◌, length, drop, Result, Ok}
 use Rattle.numbers.specs.Answers.{given}
-use Rattle.numbers.specs.Bytes.{at32}
 use Rattle.sd_format.specs.Settings.{Settings}
 use Rattle.sd_format.specs.Options as format
 use Rattle.sd_format.specs.Options.{Family, ipv4, ipv6, First, Opt, configuring, balancing, addressed, unrecognised}
@@ -16,8 +17,6 @@ use Rattle.sd_field.specs.declared.IpAddress.{IpAddress}
 use Rattle.sd_field.specs.declared.IpAddress.TheVariants.{V4, V6}
 use Rattle.sd_field.specs.declared.SdOption.{SdOption}
 use Rattle.sd_field.specs.declared.SdOption.TheVariants.{Configuration, LoadBalancing, Address, Unknown}
-use Rattle.sd_field.specs.declared.FieldsAnswer.{FieldsAnswer}
-use Rattle.sd_field.specs.declared.FieldsAnswer.TheVariants.{Good}
 use Rattle.sd_field.specs.Said.{option_said, code_said, decoded, fields_said, rest_of}
 
 abbrev pub first_coded : First → OptionFirst
@@ -29,8 +28,8 @@ role_coded format.multicast = Multicast
 role_coded format.sd_endpoint = SdEndpoint
 
 abbrev pub address_coded : Family → List ℕ → IpAddress
-address_coded ipv4 a = V4 (at32 a 0)
-address_coded ipv6 a = V6 (at32 a 0) (at32 a 4) (at32 a 8) (at32 a 12)
+address_coded ipv4 a = V4 a
+address_coded ipv6 a = V6 a
 
 abbrev pub option_coded : Opt → SdOption
 option_coded (configuring b items) = Configuration (first_coded b)
@@ -41,8 +40,8 @@ option_coded (unrecognised type b rest) = Unknown type (first_coded b)
 
 -- what `read_fields` and `option_rest` promise over `o`, laid out in front of any bytes
 pub record ReadsOwn (g : Settings) (o : Opt) (later : List ℕ) : Type 0 where
-  pub fields : (r : FieldsAnswer) → fields_said (rest_of g (lay_option o ++ later)) r ≡ given decoded (read_option g (lay_option o ++ later))
-      → r ≡ Good (option_coded o) (length (lay_option o))
+  pub fields : (r : Result Fields Refusal) → fields_said (rest_of g (lay_option o ++ later)) r ≡ given decoded (read_option g (lay_option o ++ later))
+      → r ≡ Ok (record { option = option_coded o; size = length (lay_option o) })
   pub rest : rest_of g (lay_option o ++ later) ≡ drop 4 (lay_option o)
 
 -- what `code_of` promises, whatever stands behind the first byte

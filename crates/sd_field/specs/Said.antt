@@ -1,7 +1,8 @@
 -- The code's options by their fields, and what is answered of them, in the words of the definitions. Assumes nothing: these are definitions.
-use Rattle.std.specs.Prelude.{ℕ, ◌+◌, ◌≤◌, ◌≡◌, List, ◌++◌, length, drop}
-use Rattle.numbers.specs.Answers.{Answer, accepted, refused, given, part}
-use Rattle.numbers.specs.Bytes.{be32}
+use Rattle.refusal.specs.declared.Refusal.{Refusal}
+use Rattle.sd_field.specs.declared.Fields.{Fields}
+use Rattle.std.specs.Prelude.{ℕ, ◌+◌, ◌≤◌, ◌≡◌, List, length, drop, Result}
+use Rattle.numbers.specs.Answers.{Answer, given, part}
 use Rattle.sd_format.specs.Settings.{Settings}
 use Rattle.sd_format.specs.Options.{Family, ipv4, ipv6, Role, First, Opt, configuring, balancing, addressed, unrecognised, width, protocol}
 use Rattle.sd_format.specs.Strings.{read_string}
@@ -9,7 +10,7 @@ use Rattle.sd_format.specs.Kinds.{Kind, configuration, load_balancing, address, 
 use Rattle.sd_format.specs.Frames.{Frame, size, read_option}
 use Rattle.sd_format.specs.Fields.{discardable, address_bytes, reserved, port, items_of, fields}
 use Rattle.sd_format.specs.Layout.{lay_type}
-use Rattle.refusal.specs.Said.{said}
+use Rattle.refusal.specs.Said.{said_by}
 use Rattle.sd_option.specs.declared.reading.OptionHead.{OptionHead}
 use Rattle.sd_option.specs.Kinds.{role_said}
 use Rattle.sd_option.specs.Reading.{body_of}
@@ -18,8 +19,6 @@ use Rattle.sd_field.specs.declared.IpAddress.{IpAddress}
 use Rattle.sd_field.specs.declared.IpAddress.TheVariants.{V4, V6}
 use Rattle.sd_field.specs.declared.SdOption.{SdOption}
 use Rattle.sd_field.specs.declared.SdOption.TheVariants.{Configuration, LoadBalancing, Address, Unknown}
-use Rattle.sd_field.specs.declared.FieldsAnswer.{FieldsAnswer}
-use Rattle.sd_field.specs.declared.FieldsAnswer.TheVariants.{Good, Refused}
 
 -- ---- an option
 
@@ -32,8 +31,8 @@ pub record AddressOf : Type 0 where
   pub bytes : List ℕ
 
 abbrev pub address_said : IpAddress → AddressOf
-address_said (V4 a) = record { family = ipv4; bytes = be32 a }
-address_said (V6 a b c d) = record { family = ipv6; bytes = be32 a ++ (be32 b ++ (be32 c ++ be32 d)) }
+address_said (V4 a) = record { family = ipv4; bytes = a }
+address_said (V6 a) = record { family = ipv6; bytes = a }
 
 -- `rest` is what stands behind the option's first byte
 abbrev pub option_said : (rest : List ℕ) → SdOption → Opt
@@ -60,9 +59,8 @@ pub record Decoded : Type 0 where
 abbrev pub decoded : Frame → Decoded
 decoded f = record { option = fields f; size = size f }
 
-abbrev pub fields_said : (rest : List ℕ) → FieldsAnswer → Answer Decoded
-fields_said rest (Good option size) = accepted (record { option = option_said rest option; size = size })
-fields_said rest (Refused r) = refused (said r)
+abbrev pub fields_said : (rest : List ℕ) → Result Fields Refusal → Answer Decoded
+fields_said rest = said_by (λ f. record { option = option_said rest f.option; size = f.size })
 
 -- the bytes behind the first byte of the option in front of `s`; a refusal hands back an empty part
 abbrev pub rest_of : Settings → List ℕ → List ℕ

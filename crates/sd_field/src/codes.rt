@@ -1,60 +1,47 @@
 // The type code of an option, as its layout has it.
 ghost use Rattle.std.specs.Prelude.{◌≡◌};
-ghost use Rattle.sd_format.specs.Options.{ipv4, ipv6};
 ghost use Rattle.sd_format.specs.Layout.{lay_type};
-ghost use Rattle.sd_option.specs.Kinds.{role_said};
-ghost use Rattle.sd_field.specs.Said.{code_said};
+ghost use Rattle.sd_option.specs.Kinds.{family_said, role_said};
+ghost use Rattle.sd_field.specs.Said.{address_said, code_said};
 
 use crate::{IpAddress, SdOption};
 use sd_option::kinds::{
-    CONFIGURATION, IPV4_ENDPOINT, IPV4_MULTICAST, IPV4_SD_ENDPOINT, IPV6_ENDPOINT, IPV6_MULTICAST,
-    IPV6_SD_ENDPOINT, LOAD_BALANCING, Role,
+    CONFIGURATION, Family, IPV4_ENDPOINT, IPV4_MULTICAST, IPV4_SD_ENDPOINT, IPV6_ENDPOINT,
+    IPV6_MULTICAST, IPV6_SD_ENDPOINT, LOAD_BALANCING, Role,
 };
 
-// The code of an option with an IPv4 address.
-fn ipv4_code(role: Role) -> u8
-    ensures { result ≡ lay_type ipv4 (role_said role) }
+// The family of an address.
+fn family_of(address: IpAddress) -> Family
+    ensures { family_said result ≡ (address_said address).family }
 {
-    match role {
-        Role::Endpoint => IPV4_ENDPOINT,
-        Role::Multicast => IPV4_MULTICAST,
-        Role::SdEndpoint => IPV4_SD_ENDPOINT,
+    match address {
+        IpAddress::V4(_) => Family::Ipv4,
+        IpAddress::V6(_) => Family::Ipv6,
     }
 }
 
-// The code of an option with an IPv6 address.
-fn ipv6_code(role: Role) -> u8
-    ensures { result ≡ lay_type ipv6 (role_said role) }
+// The code of an option with an address.
+fn address_code(family: Family, role: Role) -> u8
+    ensures { result ≡ lay_type (family_said family) (role_said role) }
 {
-    match role {
-        Role::Endpoint => IPV6_ENDPOINT,
-        Role::Multicast => IPV6_MULTICAST,
-        Role::SdEndpoint => IPV6_SD_ENDPOINT,
+    match (family, role) {
+        (Family::Ipv4, Role::Endpoint) => IPV4_ENDPOINT,
+        (Family::Ipv4, Role::Multicast) => IPV4_MULTICAST,
+        (Family::Ipv4, Role::SdEndpoint) => IPV4_SD_ENDPOINT,
+        (Family::Ipv6, Role::Endpoint) => IPV6_ENDPOINT,
+        (Family::Ipv6, Role::Multicast) => IPV6_MULTICAST,
+        (Family::Ipv6, Role::SdEndpoint) => IPV6_SD_ENDPOINT,
     }
 }
 
-// The type code of an option.
+// The type code of an option. No `From`: a code is not what the option is, but one thing that it has.
 pub fn code_of(option: SdOption) -> u8
     ensures { result ≡ code_said option }
 {
     match option {
-        SdOption::Configuration { first: _ } => CONFIGURATION,
-        SdOption::LoadBalancing {
-            first: _,
-            priority: _,
-            weight: _,
-        } => LOAD_BALANCING,
-        SdOption::Address {
-            role,
-            first: _,
-            address,
-            reserved: _,
-            protocol: _,
-            port: _,
-        } => match address {
-            IpAddress::V4(_) => ipv4_code(role),
-            IpAddress::V6(_, _, _, _) => ipv6_code(role),
-        },
-        SdOption::Unknown { code, first: _ } => code,
+        SdOption::Configuration { .. } => CONFIGURATION,
+        SdOption::LoadBalancing { .. } => LOAD_BALANCING,
+        SdOption::Address { role, address, .. } => address_code(family_of(address), role),
+        SdOption::Unknown { code, .. } => code,
     }
 }

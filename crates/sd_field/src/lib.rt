@@ -18,28 +18,26 @@ pub use codes::code_of;
 use places::{address_at, number16, width_of};
 use refusal::Refusal;
 use sd_option::Settings;
-use sd_option::kinds::{Family, OptionKind, Role, kind_of};
-use sd_option::reading::{
-    DISCARDABLE, FRAME_LEN, OptionAnswer, OptionHead, option_bytes, read_option,
-};
+use sd_option::kinds::{Family, OptionKind, Role};
+use sd_option::reading::{DISCARDABLE, FRAME_LEN, OptionHead, option_bytes, read_option};
 
 // The byte after the type: the discardable bit, and its seven other bits, as sent.
-#[derive(Clone, Copy)]
+#[derive(Clone, Copy, PartialEq, Eq)]
 pub struct OptionFirst {
     pub discardable: bool,
     pub others: u8,
 }
 
-// An address by its words of four bytes.
-#[derive(Clone, Copy)]
+// An address by its bytes.
+#[derive(Clone, Copy, PartialEq, Eq)]
 pub enum IpAddress {
-    V4(u32),
-    V6(u32, u32, u32, u32),
+    V4([u8; 4]),
+    V6([u8; 16]),
 }
 
 // A configuration option's string and an unknown option's later bytes: `option_rest`. `reserved` is the byte before the transport protocol, as
 // sent.
-#[derive(Clone, Copy)]
+#[derive(Clone, Copy, PartialEq, Eq)]
 pub enum SdOption {
     Configuration {
         first: OptionFirst,
@@ -63,11 +61,11 @@ pub enum SdOption {
     },
 }
 
-// The option, and how many bytes it takes, its length and its type among them.
+// An option, and how many bytes it takes, its length and its type among them.
 #[derive(Clone, Copy)]
-pub enum FieldsAnswer {
-    Good { option: SdOption, size: usize },
-    Refused(Refusal),
+pub struct Fields {
+    pub option: SdOption,
+    pub size: usize,
 }
 
 // An option with an address, whose other fields stand in `body`, the bytes after its type.
@@ -87,6 +85,7 @@ fn address_option(family: Family, role: Role, first: OptionFirst, body: &[u8]) -
 }
 
 // The option of this head, whose fields stand in `body`, the bytes after its type.
+#[tactic(auto, unfolding(sd_format::specs::Fields::fields_of))]
 fn fields_of(head: OptionHead, body: &[u8]) -> SdOption
     requires { Headed head body.now }
     ensures { option_said (string body.now) result ≡ fields_of (kind_of head.code) head.code body.now }
@@ -94,10 +93,9 @@ fn fields_of(head: OptionHead, body: &[u8]) -> SdOption
     let code = head.code;
     let first = OptionFirst {
         discardable: head.discardable,
-        others: body[0] % DISCARDABLE, // the seven bits below it
+        others: body[0] & !DISCARDABLE,
     };
-    let kind = kind_of(code);
-    match kind {
+    match OptionKind::from(code) {
         OptionKind::Configuration => SdOption::Configuration { first },
         OptionKind::LoadBalancing => SdOption::LoadBalancing {
             first,
@@ -110,18 +108,16 @@ fn fields_of(head: OptionHead, body: &[u8]) -> SdOption
 }
 
 // The option in front of `s` by its fields, what it holds judged.
-pub fn read_fields(settings: Settings, s: &[u8]) -> FieldsAnswer
+#[tactic(auto, using(sd_option::proofs::ReadingLaws::size_some, sd_option::proofs::ReadingLaws::size_within, crate::proofs::FieldLaws::found_headed, crate::proofs::FieldLaws::found_fields, crate::proofs::FieldLaws::refused_fields))]
+pub fn read_fields(settings: Settings, s: &[u8]) -> Result<Fields, Refusal>
     ensures { fields_said (rest_of (settings_said settings) s.now) result ≡ given decoded (read_option (settings_said settings) s.now) }
 {
-    let answer = read_option(settings, s);
-    let OptionAnswer::Good(head) = answer else {
-        return FieldsAnswer::Refused(answer.refusal());
-    };
+    let head = read_option(settings, s)?;
     let size = head.size;
-    FieldsAnswer::Good {
+    Ok(Fields {
         option: fields_of(head, &s[FRAME_LEN..size]),
         size,
-    }
+    })
 }
 
 // What stands behind the first byte of the option in front of `s`: a configuration option's string, an unknown option's bytes; none where it is
@@ -129,9 +125,5 @@ pub fn read_fields(settings: Settings, s: &[u8]) -> FieldsAnswer
 pub fn option_rest(settings: Settings, s: &[u8]) -> &[u8]
     ensures { result.now ≡ rest_of (settings_said settings) s.now }
 {
-    let body = option_bytes(settings, s);
-    if body.len() == 0 {
-        return body;
-    }
-    &body[1..]
+    option_bytes(settings, s).get(1..).unwrap_or(&[])
 }

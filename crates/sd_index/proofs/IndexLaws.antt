@@ -1,44 +1,36 @@
--- What a reading of the options leaves, by what it came to: the answer and the whole lent table. Assumes nothing.
-use mathlib.Core.Path.{◌≡◌, refl, sym, ap, ◌∙◌, subst}
-use mathlib.Core.List.{List, ◌++◌, append_assoc}
-use Prim.Native.Nat.{ℕ, ◌-◌, ◌≤◌, ◌<◌}
-use native.Mathlib.Omega.{arith}
-use lib.ListN.{length, drop}
+-- What a reading of the options leaves, by what it came to: the answer, the slots, and the whole lent table. Assumes nothing.
+use Rattle.std.specs.Prelude.{Result, Ok, Err}
+use Rattle.std.specs.Result.{is_err}
+use Prim.Native.Nat.{ℕ, ◌≤◌, ◌<◌}
+use mathlib.Core.Path.{◌≡◌, refl, sym, ap, ◌∙◌}
+use mathlib.Core.Bool.{true, false}
+use mathlib.Core.List.{List, ◌++◌}
+use lib.ListN.{length, drop, replicate}
 use borrow.Author.Tests.{lt-ltb, le-ltb}
+use Rattle.std.proofs.lemmas.List.{drop-replicate}
 use Rattle.numbers.specs.Refusals.{index_too_large}
 use Rattle.numbers.specs.Answers.{Answer, accepted, refused, given, refuse◌when◌else◌}
 use Rattle.sd_format.specs.Settings.{Settings}
 use Rattle.sd_format.specs.Sequences.{starts}
 use Rattle.sd_format.specs.Frames.{Frame, size, read_options, slots, zeros, lent, filled, table_after, read_index}
 use Rattle.sd_format.specs.Demand3.{undecided}
-use Rattle.sd_format.proofs.OptionLaws.{few_options, read_parts}
 use Rattle.sd_format.proofs.CallLaws.{index_reads}
-use Rattle.refusal.specs.declared.Refusal.{Refusal}
+use Rattle.refusal.specs.declared.Refusal as code
 use Rattle.refusal.specs.declared.Refusal.TheVariants.{FewSlots}
-use Rattle.refusal.specs.declared.answers.Count.{Count}
-use Rattle.refusal.specs.declared.answers.Count.TheVariants.{Good, Refused}
-use Rattle.refusal.specs.Said.{said}
-use Rattle.sd_index.specs.Indexed.{Sweeps, Indexed, indexed, cleared}
-use Rattle.sd_index.proofs.SlotLaws.{cleared_again, past_cleared, behind_cleared}
+use Rattle.refusal.specs.Said.{count_said}
+use Rattle.sd_index.specs.Indexed.{Sweeps, Indexed, indexed}
 
--- ---- the answer and the table
+-- ---- the lent table, of which the slots are the first part
 
-pub index_few_slots : (a : Answer (List Frame)) (tab : List ℕ) → length tab < 347 → Indexed a tab tab (Refused (FewSlots (length tab)))
+pub index_few_slots : (a : Answer (List Frame)) (tab : List ℕ) → length tab < 347 → Indexed a tab tab (Err (FewSlots (length tab)))
 unfolding lent slots table_after given refuse◌when◌else◌
 index_few_slots a tab h = record { told = rw (lt-ltb (length tab) 347 h); slots = rw (lt-ltb (length tab) 347 h) }
 
-module _ (a : Answer (List Frame)) (tab tab' : List ℕ) (long : 347 ≤ length tab) where
-  pub index_refused : (r : Refusal) → a ≡ refused (said r) → tab' ≡ cleared tab → Indexed a tab tab' (Refused r)
-  unfolding lent slots given filled table_after cleared refuse◌when◌else◌
-  index_refused r e t = record { told = rw (le-ltb (length tab) 347 long, e); slots = t ∙ rw e refl }
-
-  index_good : (fs : List Frame) (n : ℕ) → a ≡ accepted fs → length fs ≡ n → n ≤ 347 → tab' ≡ starts size 0 fs ++ drop n (cleared tab) → Indexed a tab tab' (Good n)
-  unfolding lent slots given filled table_after refuse◌when◌else◌
-  index_good fs n e count few t =
-      record {
-        told = rw (le-ltb (length tab) 347 long, e, count);
-        slots = t ∙ rw (behind_cleared tab n long few, le-ltb (length tab) 347 long, e, count) (sym (append_assoc (starts size 0 fs) (zeros (347 - n)) (drop 347 tab)));
-      }
+pub index_lent : (a : Answer (List Frame)) (tab : List ℕ) (r : Result ℕ code.Refusal) (here : List ℕ) → 347 ≤ length tab → count_said r ≡ given length a → here ≡ filled a
+    → Indexed a tab (here ++ drop 347 tab) r
+unfolding lent slots table_after refuse◌when◌else◌
+index_lent a tab r here long told left =
+    record { told = told ∙ rw (le-ltb (length tab) 347 long) refl; slots = rw (le-ltb (length tab) 347 long) (ap (λ (l : List ℕ). l ++ drop 347 tab) left) }
 
 -- ---- what the options come to
 
@@ -52,24 +44,37 @@ module _ (g : Settings) (s : List ℕ) where
   unfolding indexed refuse◌when◌else◌
   indexed_is short = rw (le-ltb 1388 (length s) short)
 
+  pub long_told : 1388 < length s → refused (index_too_large (length s)) ≡ given length (indexed g s)
+  unfolding given
+  long_told h = rw (indexed_long h)
+
+  pub long_left : 1388 < length s → (here : List ℕ) → here ≡ replicate 347 0 → here ≡ filled (indexed g s)
+  unfolding filled slots zeros
+  long_left h here zero = rw (indexed_long h) zero
+
 -- the index alone permits every unknown option
 pub indexed_alone : (g : Settings) (s : List ℕ) → indexed (undecided g) s ≡ read_index g s
 unfolding indexed read_index
 indexed_alone g s = rw (index_reads g s)
 
--- ---- what the pass came to, over a table that was cleared
+-- ---- what the pass came to, over slots that were cleared
 
-module _ (g : Settings) (s tab tab₁ tab₂ : List ℕ) (long : 347 ≤ length tab) (short : length s ≤ 1388) (clear : tab₁ ≡ cleared tab) (r : Count)
-    (sweeps : Sweeps g s tab₁ tab₂ r) where
-  pub swept_good : (n : ℕ) → r ≡ Good n → Indexed (indexed g s) tab tab₂ r
-  swept_good n e =
-      let (fs, reads, count, table) = subst (Sweeps g s tab₁ tab₂) e sweeps in
-      let few : n ≤ 347 = omega (arith, few_options g s fs ((read_parts g s fs).0 reads).0) in
-      rw e (index_good _ tab tab₂ long fs n (indexed_is g s short ∙ reads) count few (table ∙ ap (λ (t : List ℕ). starts size 0 fs ++ drop n t) clear))
+module _ (g : Settings) (s tab here : List ℕ) (short : length s ≤ 1388) (zero : tab ≡ replicate 347 0) where
+  pub swept_told : (r : Result ℕ code.Refusal) → Sweeps g s tab here r → count_said r ≡ given length (indexed g s)
+  unfolding given
+  swept_told (Ok n) (fs, reads, count, left) = rw (indexed_is g s short, reads) (ap accepted (sym count))
+  swept_told (Err r) refuses = rw (indexed_is g s short, refuses) refl
 
-  pub swept_refused : (q : Refusal) → r ≡ Refused q → length tab₂ ≡ length tab → (tab₃ : List ℕ) → tab₃ ≡ cleared tab₂ → Indexed (indexed g s) tab tab₃ r
-  swept_refused q e same tab₃ again =
-      let (reads, past) = subst (Sweeps g s tab₁ tab₂) e sweeps in
-      rw e
-      (index_refused _ tab tab₃ long q (indexed_is g s short ∙ reads)
-      (again ∙ cleared_again tab tab₂ long same (past ∙ ap (drop slots) clear ∙ past_cleared tab long)))
+  -- a pass that was not refused left the slots as they are to be
+  pub swept_left : (r : Result ℕ code.Refusal) → is_err r ≡ false → Sweeps g s tab here r → here ≡ filled (indexed g s)
+  unfolding filled slots zeros
+  swept_left (Ok n) good (fs, reads, count, left) =
+      rw (indexed_is g s short, reads)
+      (left ∙ rw (zero, count) (ap (λ (l : List ℕ). starts size 0 fs ++ l) (drop-replicate n 347 0)))
+  swept_left (Err r) good refuses = cc
+
+  -- and after one that was they are cleared once more
+  pub swept_cleared : (r : Result ℕ code.Refusal) → is_err r ≡ true → Sweeps g s tab here r → (after : List ℕ) → after ≡ replicate 347 0 → after ≡ filled (indexed g s)
+  unfolding filled slots zeros
+  swept_cleared (Ok n) bad swept after again = cc
+  swept_cleared (Err r) bad refuses after again = rw (indexed_is g s short, refuses) again

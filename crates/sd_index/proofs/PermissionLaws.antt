@@ -1,17 +1,20 @@
 -- Whether an option may stand, by what the reading of one tells. Assumes nothing.
-use Prim.Native.Nat.{ℕ}
+use Prim.Native.Nat.{ℕ, ◌+◌}
 use mathlib.Core.Path.{◌≡◌, refl}
 use mathlib.Core.Logic.{◌≢◌}
-use mathlib.Core.Bool.{Bool, true, not, ◌||◌}
+use mathlib.Core.Bool.{true, false}
 use mathlib.Core.List.{List}
-use Rattle.numbers.specs.Refusals.{unknown_option}
-use Rattle.numbers.specs.Answers.{Verdict, pass, refuse◌when◌else◌, further}
+use Rattle.numbers.specs.Refusals.{unknown_option, ◌at_byte◌}
+use Rattle.numbers.specs.Answers.{refused, pass, refuse◌when◌else◌, further}
 use Rattle.sd_format.specs.Settings.{Settings}
 use Rattle.sd_format.specs.Kinds.{Kind, configuration, load_balancing, address, unknown, kind_of}
 use Rattle.sd_format.specs.Frames.{Frame, permitted, permit}
 use Rattle.sd_format.specs.Fields.{discardable}
 use Rattle.sd_option.specs.declared.reading.OptionHead.{OptionHead}
 use Rattle.sd_option.specs.Reading.{head_of}
+use Rattle.sd_option.specs.declared.kinds.OptionKind.{OptionKind}
+use Rattle.sd_option.specs.declared.kinds.OptionKind.TheVariants.{Configuration, LoadBalancing, Address, Unknown}
+use Rattle.sd_option.specs.Kinds.{kind_said}
 use Rattle.sd_index.specs.Permission.{may, permit_told}
 
 may_permitted : (g : Settings) (k : Kind) (body : List ℕ) → permitted g k body ≡ may g k (discardable body)
@@ -25,21 +28,24 @@ pub told_permits : (g : Settings) (f : Frame) → permit g f ≡ permit_told g (
 unfolding permit permit_told
 told_permits g f = rw (may_permitted g (kind_of f.type) f.body)
 
-may_known : (g : Settings) (k : Kind) (d : Bool) → k ≢ unknown → may g k d ≡ true
-may_known g configuration d h = refl
-may_known g load_balancing d h = refl
-may_known g (address family role) d h = refl
-may_known g unknown d h = absurd (h refl)
-
--- an option of unknown type that starts at `at`, by the setting and the bit
-unfoldable pub by_bits : (at type : ℕ) (setting bit : Bool) → Verdict
-by_bits at type setting bit = further at (refuse unknown_option type when not (setting || bit) else pass)
-
+-- by the type's kind, the setting and the bit
 module _ (g : Settings) (at : ℕ) (h : OptionHead) where
-  pub known_passes : kind_of h.code ≢ unknown → further at (permit_told g h) ≡ pass
+  pub known_may : (k : OptionKind) → kind_said k ≡ kind_of h.code → k ≢ Unknown → pass ≡ further at (permit_told g h)
   unfolding permit_told refuse◌when◌else◌ further
-  known_passes known = rw (may_known g (kind_of h.code) h.discardable known)
+  known_may Configuration is other = rw (← is) refl
+  known_may LoadBalancing is other = rw (← is) refl
+  known_may (Address f r) is other = rw (← is) refl
+  known_may Unknown is other = absurd (other refl)
 
-  pub unknown_told : kind_of h.code ≡ unknown → further at (permit_told g h) ≡ by_bits at h.code g.discard h.discardable
-  unfolding permit_told by_bits
-  unknown_told e = rw e
+  module _ (is : unknown ≡ kind_of h.code) where
+    pub set_may : g.discard ≡ true → pass ≡ further at (permit_told g h)
+    unfolding permit_told refuse◌when◌else◌ further
+    set_may on = rw (← is, on) refl
+
+    pub bit_may : g.discard ≡ false → h.discardable ≡ true → pass ≡ further at (permit_told g h)
+    unfolding permit_told refuse◌when◌else◌ further
+    bit_may off on = rw (← is, off, on) refl
+
+    pub may_not : g.discard ≡ false → h.discardable ≡ false → refused (unknown_option h.code at_byte (at + 3)) ≡ further at (permit_told g h)
+    unfolding permit_told refuse◌when◌else◌ further
+    may_not off none = rw (← is, off, none) refl

@@ -1,25 +1,29 @@
 -- The turns of the pass over the options, on plain values: what the loop keeps, and what it comes to. Assumes nothing.
+use Rattle.std.specs.Prelude.{Result, Ok, Err, MatchResult}
+use Rattle.std.specs.Result.{is_ok}
 use mathlib.Core.Path.{◌≡◌, refl, sym, ap, ◌∙◌}
+use mathlib.Core.Bool.{true, false}
 use mathlib.Core.List.{List, [], ◌∷◌, ◌++◌, append_assoc, append-nil}
 use Prim.Native.Nat.{ℕ, ◌+◌, ◌*◌, ◌-◌, ◌≤◌, ◌<◌}
 use native.Mathlib.Omega.{arith}
-use lib.ListN.{length, drop, set, length-append, length-drop, length-set}
-use lib.Seq.{drop-drop, drop-set-lt}
+use lib.ListN.{length, drop, set, length-append, length-drop}
+use lib.Seq.{drop-drop}
 use Rattle.numbers.specs.Refusals.{Refusal, told, moved_place, moved}
 use Rattle.numbers.specs.Answers.{Answer, accepted, refused, Verdict, pass, ◌>>=◌, ◌>>◌, further, given}
 use Rattle.sd_format.specs.Settings.{Settings}
 use Rattle.sd_format.specs.Sequences.{all, starts, each_from}
-use Rattle.sd_format.specs.Kinds.{judge_content}
-use Rattle.sd_format.specs.Frames.{Frame, size, slots, read_option, placed_option, permit, all_options, read_options}
+use Rattle.numbers.proofs.AnswerLaws.{moved_twice}
+use Rattle.sd_format.specs.Kinds.{kind_of, judge_content}
+use Rattle.sd_format.specs.Frames.{Frame, size, one_option, read_option, placed_option, permit, all_options, read_options}
 use Rattle.sd_format.proofs.SequenceLaws.{all_end, all_stop, all_more, length_starts}
 use Rattle.sd_format.proofs.OptionLaws.{placed_plain}
 use Rattle.sd_format.proofs.FaultLaws.{option_told}
 use Rattle.refusal.specs.declared.Refusal as code
-use Rattle.refusal.specs.declared.answers.Count.TheVariants.{Good, Refused}
-use Rattle.refusal.specs.Said.{said, most, moved_capped}
+use Rattle.refusal.specs.Said.{said, verdict_said, most, moved_capped}
 use Rattle.refusal.proofs.PlaceLaws.{uncapped}
 use Rattle.sd_option.specs.declared.reading.OptionHead.{OptionHead}
-use Rattle.sd_option.proofs.ReadingLaws.{Found, front}
+use Rattle.sd_option.specs.Reading.{head_of, option_said, behind_type, protocol_verdict, string_verdict}
+use Rattle.sd_option.proofs.ReadingLaws.{Found, front, found_head, not_found, refused_before, string_refused, string_passed}
 use Rattle.sd_index.specs.Permission.{permit_told}
 use Rattle.sd_index.specs.Indexed.{Sweeps}
 use Rattle.sd_index.proofs.SlotLaws.{set_next}
@@ -34,8 +38,6 @@ pub record Turn (g : Settings) (s tab₀ tab : List ℕ) (at n : ℕ) (v : Verdi
   pub places : (later : List Frame) → starts size 0 (done ++ later) ≡ starts size 0 done ++ starts size at later
   pub permits : (later : List Frame) → each_from size (permit g) 0 (done ++ later) ≡ (v >> each_from size (permit g) at later)
   pub table : tab ≡ starts size 0 done ++ drop n tab₀
-  pub past : drop slots tab ≡ drop slots tab₀
-  pub long : length tab ≡ length tab₀
   pub few : 4 * n ≤ at
   pub within : at ≤ length s
 
@@ -54,20 +56,25 @@ turn_starts g s tab =
       places = λ later. refl;
       permits = λ later. refl;
       table = refl;
-      past = refl;
-      long = refl;
       few = omega arith;
       within = omega arith;
     }
 
--- the first that may not stand counts
-pub bad_stays : {v : Verdict} {r : Refusal} (w : Verdict) → v ≡ refused r → v ≡ (v >> w)
+-- the verdict so far is `p`: the first that may not stand counts
+pub bad_stays : (p : Result (Unit {0}) code.Refusal) (w : Verdict) → is_ok p ≡ false → verdict_said p ≡ (verdict_said p >> w)
 unfolding ◌>>◌
-bad_stays w e = rw e refl
+bad_stays (Ok u) w bad = cc
+bad_stays (Err r) w bad = refl
 
-pub good_asks : {u v w : Verdict} → v ≡ pass → u ≡ w → u ≡ (v >> w)
+pub good_asks : (p : Result (Unit {0}) code.Refusal) (w u : Verdict) → is_ok p ≡ true → u ≡ w → u ≡ (verdict_said p >> w)
 unfolding ◌>>◌
-good_asks e same = rw e same
+good_asks (Ok x) w u good same = same
+good_asks (Err r) w u good same = cc
+
+pub good_stays : (p : Result (Unit {0}) code.Refusal) (w : Verdict) → is_ok p ≡ true → pass ≡ w → verdict_said p ≡ (verdict_said p >> w)
+unfolding ◌>>◌
+good_stays (Ok x) w good same = same
+good_stays (Err r) w good same = cc
 
 then_assoc : (u v w : Verdict) → ((u >> v) >> w) ≡ (u >> (v >> w))
 unfolding ◌>>◌
@@ -79,6 +86,29 @@ one_more : (done : List Frame) (f : Frame) (a : Answer (List Frame))
 unfolding given ◌>>=◌
 one_more done f (accepted l) = rw append_assoc
 one_more done f (refused r) = refl
+
+-- what the code has of the option in front of `s`, which it reads in `b`: its head, and its string's verdict
+module _ {s b : List ℕ} (g : Settings) (there : b ≡ s) where
+  abbrev HeadSaid : Answer OptionHead → Type 0
+  HeadSaid a = a ≡ given head_of (one_option (protocol_verdict g) b)
+
+  head_there : (a : Answer OptionHead) → HeadSaid a → a ≡ given head_of (one_option (protocol_verdict g) s)
+  head_there a read = read ∙ ap (λ (b : List ℕ). given head_of (one_option (protocol_verdict g) b)) there
+
+  string_there : (h : OptionHead) (v : Verdict) → v ≡ string_verdict (kind_of h.code) (behind_type b h.size) → v ≡ string_verdict (kind_of h.code) (behind_type s h.size)
+  string_there h v scanned = scanned ∙ ap (λ (b : List ℕ). string_verdict (kind_of h.code) (behind_type b h.size)) there
+
+  pub head_read : (a : Result OptionHead code.Refusal) (h : OptionHead) → HeadSaid (option_said a)
+      → MatchResult a (λ x. ◌≡◌ {A = Result OptionHead code.Refusal} (Ok h) (Ok x)) (λ e. ⊥) → accepted h ≡ given head_of (one_option (protocol_verdict g) s)
+  head_read (Ok x) h read same = ap option_said same ∙ head_there (accepted x) read
+  head_read (Err e) h read none = absurd none
+
+  pub whole_read : (a : Result OptionHead code.Refusal) (h : OptionHead) (v : Result (Unit {0}) code.Refusal) → HeadSaid (option_said a)
+      → MatchResult a (λ x. ◌≡◌ {A = Result OptionHead code.Refusal} (Ok h) (Ok x)) (λ e. ⊥) → verdict_said v ≡ string_verdict (kind_of h.code) (behind_type b h.size)
+      → MatchResult v (λ u. ◌≡◌ {A = Result (Unit {0}) code.Refusal} (Ok tt) (Ok u)) (λ e. ⊥) → Found (judge_content g) s h
+  whole_read a h (Ok u) read taken scanned clean =
+      string_passed g s h (found_head (protocol_verdict g) s h (sym (head_read a h read taken))) (Ok u) (string_there h pass scanned) refl
+  whole_read a h (Err e) read taken scanned none = absurd none
 
 module _ {g : Settings} {s tab₀ tab : List ℕ} {at n : ℕ} {v : Verdict} (t : Turn g s tab₀ tab at n v) where
   -- ---- within the bytes, by the option that stands there
@@ -96,8 +126,8 @@ module _ {g : Settings} {s tab₀ tab : List ℕ} {at n : ℕ} {v : Verdict} (t 
     among = ap (λ (n : ℕ). further n (read_option g (drop at s))) here
 
     -- it is refused alone, and `q` is what the code had of that, `r`, moved by `by` bytes
-    pub turn_stops : (alone r : Refusal) (by : ℕ) → read_option g (drop at s) ≡ refused alone → moved by r ≡ moved at alone → length s ≤ most
-        → (q : code.Refusal) → said q ≡ moved_capped by r → Sweeps g s tab₀ tab (Refused q)
+    turn_stops : (alone r : Refusal) (by : ℕ) → read_option g (drop at s) ≡ refused alone → moved by r ≡ moved at alone → length s ≤ most
+        → (q : code.Refusal) → said q ≡ moved_capped by r → read_options g s ≡ refused (said q)
     unfolding read_options given further ◌>>=◌
     turn_stops alone r by e same few q is =
         let (p, there, low) = option_told g (drop at s) alone e in
@@ -106,7 +136,26 @@ module _ {g : Settings} {s tab₀ tab : List ℕ} {at n : ℕ} {v : Verdict} (t 
         let place : said q ≡ moved at alone = is ∙ uncapped by r (at + p) told_there (omega arith) ∙ same in
         let stop : placed_option g (length s) (drop at s) ≡ refused (said q) = among ∙ rw e (ap refused (sym place)) in
         let stops : all_options g s ≡ refused (said q) = t.whole ∙ ap (given (λ later. t.done ++ later)) (all_stop (placed_option g (length s)) size (drop at s) (said q) left stop) in
-        (rw stops refl, t.past)
+        rw stops refl
+
+    module _ {b : List ℕ} (there : b ≡ drop at s) where
+      -- before its string
+      pub first_stops : (a : Result OptionHead code.Refusal) (q : code.Refusal) → length s ≤ most → option_said a ≡ given head_of (one_option (protocol_verdict g) b)
+          → MatchResult a (λ h. ◌≡◌ {A = Result OptionHead code.Refusal} (Err q) (Ok h)) (λ e. said q ≡ moved_capped at (said e)) → read_options g s ≡ refused (said q)
+      first_stops (Ok h) q few read other = cc
+      first_stops (Err e) q few read is =
+          let alone = not_found (protocol_verdict g) (drop at s) (Err e) (head_there g there (refused (said e)) read) e refl in
+          turn_stops (said e) (said e) at (refused_before g (drop at s) (said e) alone) refl few q is
+
+      -- or by it
+      pub string_stops : (h : OptionHead) (v : Result (Unit {0}) code.Refusal) (q : code.Refusal) → length s ≤ most
+          → accepted h ≡ given head_of (one_option (protocol_verdict g) (drop at s)) → verdict_said v ≡ string_verdict (kind_of h.code) (behind_type b h.size)
+          → MatchResult v (λ u. ◌≡◌ {A = Result (Unit {0}) code.Refusal} (Err q) (Ok u)) (λ e. said q ≡ moved_capped (at + 4) (said e)) → read_options g s ≡ refused (said q)
+      string_stops h (Ok u) q few read scanned other = cc
+      string_stops h (Err e) q few read scanned is =
+          let f = found_head (protocol_verdict g) (drop at s) h (sym read) in
+          turn_stops (moved 4 (said e)) (said e) (at + 4) (string_refused g (drop at s) h f (Err e) (string_there g there h (refused (said e)) scanned) e refl)
+          (sym (moved_twice at 4 (said e))) few q is
 
     module _ (h : OptionHead) (found : Found (judge_content g) (drop at s) h) where
       pub turn_within : (4 ≤ h.size) × (at + h.size ≤ length s)
@@ -129,10 +178,10 @@ module _ {g : Settings} {s tab₀ tab : List ℕ} {at n : ℕ} {v : Verdict} (t 
       unfolding f
       permit_is = told_permits g f ∙ ap (permit_told g) found.head
 
-      pub turn_goes : n < 347 → 347 ≤ length tab₀ → (tab' : List ℕ) → tab' ≡ set tab n at → (w : Verdict) → w ≡ (v >> further at (permit_told g h))
+      pub turn_goes : n < length tab₀ → (tab' : List ℕ) → tab' ≡ set tab n at → (w : Verdict) → w ≡ (v >> further at (permit_told g h))
           → Turn g s tab₀ tab' (at + h.size) (n + 1) w
-      unfolding starts each_from slots
-      turn_goes free enough tab' written w both =
+      unfolding starts each_from
+      turn_goes free tab' written w both =
           let next : (later : List Frame) → starts size 0 (t.done ++ (f ∷ later)) ≡ starts size 0 t.done ++ (at ∷ starts size (at + h.size) later) =
           λ later. t.places (f ∷ later) ∙ rw size_told refl in
           let asks : (later : List Frame) → each_from size (permit g) 0 (t.done ++ (f ∷ later)) ≡ (v >> (further at (permit_told g h) >> each_from size (permit g) (at + h.size) later)) =
@@ -148,10 +197,8 @@ module _ {g : Settings} {s tab₀ tab : List ℕ} {at n : ℕ} {v : Verdict} (t 
             table =
                 written
                 ∙ ap (λ (l : List ℕ). set l n at) t.table
-                ∙ set_next (starts size 0 t.done) tab₀ n at (length_starts size 0 t.done ∙ t.count) (omega arith)
+                ∙ set_next (starts size 0 t.done) tab₀ n at (length_starts size 0 t.done ∙ t.count) free
                 ∙ ap (λ (l : List ℕ). l ++ drop (n + 1) tab₀) (sym (next []));
-            past = ap (drop 347) written ∙ drop-set-lt 347 tab n at free ∙ t.past;
-            long = ap length written ∙ length-set tab n at ∙ t.long;
             few = omega (arith, t.few, turn_within);
             within = turn_within.1;
           }
@@ -170,10 +217,10 @@ module _ {g : Settings} {s tab₀ tab : List ℕ} {at n : ℕ} {v : Verdict} (t 
     unfolding each_from
     judged = ap (each_from size (permit g) 0) (sym (append-nil t.done)) ∙ t.permits []
 
-    pub turn_refuses : (q : code.Refusal) → v ≡ refused (said q) → Sweeps g s tab₀ tab (Refused q)
+    pub turn_refuses : (q : code.Refusal) → v ≡ refused (said q) → read_options g s ≡ refused (said q)
     unfolding read_options ◌>>=◌ ◌>>◌
-    turn_refuses q e = (rw (ends, judged, e) refl, t.past)
+    turn_refuses q e = rw (ends, judged, e) refl
 
-    pub turn_ends : v ≡ pass → Sweeps g s tab₀ tab (Good n)
+    pub turn_ends : v ≡ pass → Sweeps g s tab₀ tab (Ok n)
     unfolding read_options ◌>>=◌ ◌>>◌
     turn_ends e = (t.done, rw (ends, judged, e) refl, t.count, t.table)

@@ -1,21 +1,19 @@
 -- What lookup answers, in the words of the definitions. Assumes nothing: these are definitions.
-use Rattle.std.specs.Prelude.{ℕ, ◌+◌, ◌-◌, ◌≡◌, List, take, drop, get_or}
-use Rattle.numbers.specs.Answers.{Answer, accepted, refused, Verdict, given}
+use Rattle.refusal.specs.declared.Refusal.{Refusal}
+use Rattle.std.specs.Prelude.{ℕ, ◌+◌, ◌-◌, ◌≡◌, List, take, drop, get_or, Result}
+use Rattle.numbers.specs.Answers.{Answer, accepted, Verdict, given}
 use Rattle.sd_format.specs.Kinds.{Kind}
 use Rattle.sd_format.specs.Frames.{Frame, one_option, look_up}
-use Rattle.refusal.specs.Said.{said}
+use Rattle.refusal.specs.Said.{said_by}
 use Rattle.sd_option.specs.Reading.{head_of}
 use Rattle.sd_index.specs.declared.lookup.Found.{Found}
-use Rattle.sd_index.specs.declared.lookup.FoundAnswer.{FoundAnswer}
-use Rattle.sd_index.specs.declared.lookup.FoundAnswer.TheVariants as found
 
 -- what is told of the option that starts at `at`
 abbrev pub located : ℕ → Frame → Found
 located at f = record { offset = record { 0 = at }; head = head_of f }
 
-abbrev pub found_said : FoundAnswer → Answer Found
-found_said (found.Good f) = accepted f
-found_said (found.Refused r) = refused (said r)
+abbrev pub found_said : Result Found Refusal → Answer Found
+found_said = said_by (λ f. f)
 
 -- what is told where a table gave this for the option of number `k`: it starts where its slot says
 abbrev pub by_table : List ℕ → ℕ → Answer Frame → Answer Found

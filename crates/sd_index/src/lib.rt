@@ -8,8 +8,8 @@ mod permission;
 mod reading;
 mod slots;
 
-pub use cursor::{OptionCursor, OptionStep, RunCursor, RunStep};
-pub use lookup::{Found, FoundAnswer, look_up, option_at};
+pub use cursor::{OptionCursor, RunCursor};
+pub use lookup::{Found, look_up, option_at};
 pub use reading::{read_index, read_options};
 pub use slots::clear_slots;
 

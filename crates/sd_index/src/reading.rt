@@ -1,84 +1,80 @@
 // All options of an options part, in one pass: their offsets into the lent table, and whether each may stand.
-ghost use Rattle.std.specs.Prelude.{◌≤◌, length};
-ghost use Rattle.sd_format.specs.Frames.{read_index};
+ghost use Rattle.std.specs.Prelude.{◌≡◌, ◌≤◌, length};
+ghost use Rattle.numbers.specs.Answers.{given};
+ghost use Rattle.sd_format.specs.Frames.{filled, read_index};
+ghost use Rattle.refusal.specs.Said.{count_said};
 ghost use Rattle.sd_option.specs.Settings.{settings_said};
 ghost use Rattle.sd_index.specs.Indexed.{Sweeps, Indexed, indexed};
 
 use crate::lookup::option_at;
 use crate::permission::permission_of;
-use crate::slots::{clear_slots, write_slot};
 use crate::{MAX_OPTIONS_LEN, Offset, Ordinal, SLOTS};
-use refusal::{Count, Refusal, Verdict, moved};
+use refusal::{Refusal, moved};
 use sd_option::Settings;
-use sd_option::reading::{OptionAnswer, STRING_START, read_option_unscanned, scan};
+use sd_option::reading::{STRING_START, read_option_unscanned, scan};
 
-// One pass over the options: the offset of each into the table, from its first slot on; then 10 for the first that may not stand.
-fn sweep(settings: Settings, options: &[u8], table: &mut [u16]) -> Count
-    requires { (347 ≤ length table.old) × (length options.now ≤ 1388) }
-    ensures { Sweeps (settings_said settings) options.now table.old table.new result }
+// One pass over the options: the offset of each into its slot, from the first on; then 10 for the first that may not stand.
+fn sweep(settings: Settings, options: &[u8], slots: &mut [u16; SLOTS]) -> Result<usize, Refusal>
+    requires { length options.now ≤ 1388 }
+    ensures { Sweeps (settings_said settings) options.now slots.old slots.new result }
 {
     let mut at = Offset(0);
     let mut count = Ordinal(0);
-    let mut permission = Verdict::Passed;
+    let mut permission = Ok(());
+    // a walk: each option says where the next one is
     while at.0 < options.len() {
         let rest = option_at(options, at);
-        let answer = read_option_unscanned(settings, rest); // read_option, in its two halves
-        let OptionAnswer::Good(head) = answer else {
-            return Count::Refused(moved(answer.refusal(), at.0));
-        };
-        let string = scan(head, rest);
-        let Verdict::Passed = string else {
-            return Count::Refused(moved(string.refusal(), at.0 + STRING_START));
-        };
-        let start = at;
-        write_slot(table, count, start);
+        // `read_option`, in its two halves
+        let head = read_option_unscanned(settings, rest).map_err(|refusal| moved(refusal, at.0))?;
+        scan(head, rest).map_err(|refusal| moved(refusal, at.0 + STRING_START))?;
+        slots[count.0] = at.0 as u16;
+        if permission.is_ok() {
+            // the first that may not stand counts, and nothing is written where it may stand: quicker (docs/SPEED.md)
+            if let Err(refusal) = permission_of(settings, head, at) {
+                permission = Err(refusal);
+            }
+        }
         count = Ordinal(count.0 + 1);
-        at = Offset(start.0 + head.size);
-        let Verdict::Passed = permission else {
-            continue; // the first that may not stand counts
-        };
-        let verdict = permission_of(settings, head, start);
-        let Verdict::Refused(_) = verdict else {
-            continue; // nothing is written where it may stand: quicker (docs/SPEED.md)
-        };
-        permission = verdict;
+        at = Offset(at.0 + head.size);
     }
-    let Verdict::Passed = permission else {
-        return Count::Refused(permission.refusal());
-    };
-    Count::Good(count.0)
+    permission?;
+    Ok(count.0)
 }
 
-// All options of an options part, with their offsets in the lent table, and how many they are: 22, 13, each option from the front, then 10 for the
-// first unknown one that may not stand.
-pub fn read_options(settings: Settings, options: &[u8], table: &mut [u16]) -> Count
-    ensures { Indexed (indexed (settings_said settings) options.now) table.old table.new result }
+// All options of an options part, with their offsets in the slots, and how many they are: 13, each option from the front, then 10 for the first
+// unknown one that may not stand. Whatever was refused, the slots hold zeros then.
+fn read_into(settings: Settings, options: &[u8], slots: &mut [u16; SLOTS]) -> Result<usize, Refusal>
+    ensures told { count_said result ≡ given length (indexed (settings_said settings) options.now) }
+    ensures left { slots.new ≡ filled (indexed (settings_said settings) options.now) }
 {
-    if table.len() < SLOTS {
-        return Count::Refused(Refusal::FewSlots(table.len()));
-    }
-    clear_slots(table);
+    slots.fill(0);
     if MAX_OPTIONS_LEN < options.len() {
-        return Count::Refused(Refusal::IndexTooLarge(options.len()));
+        return Err(Refusal::IndexTooLarge(options.len()));
     }
-    let answer = sweep(settings, options, table);
-    let Count::Good(_) = answer else {
-        clear_slots(table);
-        return answer;
-    };
+    let answer = sweep(settings, options, slots);
+    if answer.is_err() {
+        slots.fill(0);
+    }
     answer
 }
 
+// The same with a lent table, of which the first 347 are the slots; 22 with fewer comes first.
+pub fn read_options(settings: Settings, options: &[u8], table: &mut [u16]) -> Result<usize, Refusal>
+    ensures { Indexed (indexed (settings_said settings) options.now) table.old table.new result }
+{
+    match table.first_chunk_mut() {
+        Some(slots) => read_into(settings, options, slots),
+        None => Err(Refusal::FewSlots(table.len())),
+    }
+}
+
 // The index alone: 22, 13, then the options, unknown ones whether they may be discarded or not.
-pub fn read_index(settings: Settings, options: &[u8], table: &mut [u16]) -> Count
+pub fn read_index(settings: Settings, options: &[u8], table: &mut [u16]) -> Result<usize, Refusal>
     ensures { Indexed (read_index (settings_said settings) options.now) table.old table.new result }
 {
-    read_options(
-        Settings {
-            discard_unknown_option: true,
-            strict: settings.strict,
-        },
-        options,
-        table,
-    )
+    let discarding = Settings {
+        discard_unknown_option: true,
+        ..settings
+    };
+    read_options(discarding, options, table)
 }

@@ -1,167 +1,134 @@
 // The entries, each with the numbers of the options of its two runs.
-use crate::options::run;
-use print::{named, text, yes_or_no};
+use crate::options::{Options, Run};
+use print::{YesNo, out};
 use sd_entry::{
-    EntryAnswer, EntryCursor, EntryHead, EventGroup, EventGroupEntryType, SdEntry,
-    SdServiceEntryType,
+    EntryCursor, EntryHead, EventGroup, EventGroupEntryType, SdEntry, SdServiceEntryType,
 };
 use sd_index::RunCursor;
-use words::told;
+use std::fmt;
 
-// A TTL of 0 takes back what an entry's type says.
-fn by_ttl(rt: &impl Print, ttl: u32, over: &[u8], on: &[u8]) {
-    if ttl == 0 {
-        text(rt, over);
-    } else {
-        text(rt, on);
+// More than the entries that a payload has at most.
+const MOST: usize = 100;
+
+// What a service entry's type says; a TTL of 0 takes an offer back.
+fn service_word(entry_type: SdServiceEntryType, ttl: u32) -> &'static str {
+    match (entry_type, ttl) {
+        (SdServiceEntryType::FindService, _) => "find service",
+        (SdServiceEntryType::OfferService, 0) => "stop offer of service",
+        (SdServiceEntryType::OfferService, _) => "offer of service",
     }
 }
 
-fn service_word(rt: &impl Print, entry_type: SdServiceEntryType, ttl: u32) {
-    match entry_type {
-        SdServiceEntryType::FindService => text(rt, b"find service "),
-        SdServiceEntryType::OfferService => by_ttl(
-            rt,
-            ttl,
-            b"stop offer of service ",
-            b"offer of service ",
-        ),
+// What an eventgroup entry's type says; a TTL of 0 takes it back.
+fn eventgroup_word(entry_type: EventGroupEntryType, ttl: u32) -> &'static str {
+    match (entry_type, ttl) {
+        (EventGroupEntryType::SubscribeOrStop, 0) => "stop subscription to service",
+        (EventGroupEntryType::SubscribeOrStop, _) => "subscription to service",
+        (EventGroupEntryType::SubscribeAckOrNack, 0) => "subscription refused by service",
+        (EventGroupEntryType::SubscribeAckOrNack, _) => "subscription acknowledged by service",
     }
 }
 
-fn eventgroup_word(rt: &impl Print, entry_type: EventGroupEntryType, ttl: u32) {
-    match entry_type {
-        EventGroupEntryType::SubscribeOrStop => by_ttl(
-            rt,
+#[derive(Clone, Copy)]
+struct Head(EntryHead);
+
+impl fmt::Display for Head {
+    fn fmt<W: fmt::Write>(&self, f: &mut fmt::Formatter<W>) -> fmt::Result {
+        let EntryHead {
+            service_id,
+            instance_id,
+            major_version,
             ttl,
-            b"stop subscription to service ",
-            b"subscription to service ",
-        ),
-        EventGroupEntryType::SubscribeAckOrNack => by_ttl(
-            rt,
-            ttl,
-            b"subscription refused by service ",
-            b"subscription acknowledged by service ",
-        ),
+            ..
+        } = self.0;
+        write!(
+            f,
+            "0x{service_id:04x}, instance 0x{instance_id:04x}, major version {major_version}, TTL {ttl}"
+        )
     }
 }
 
-fn head_words(rt: &impl Print, head: EntryHead) {
-    told(
-        rt,
-        b"%04, instance %14, major version %2d, TTL %3d",
-        [
-            head.service_id as u64,
-            head.instance_id as u64,
-            head.major_version as u64,
-            head.ttl as u64,
-            0,
-        ],
-    );
+#[derive(Clone, Copy)]
+struct Group(EventGroup);
+
+impl fmt::Display for Group {
+    fn fmt<W: fmt::Write>(&self, f: &mut fmt::Formatter<W>) -> fmt::Result {
+        let EventGroup {
+            eventgroup_id,
+            counter,
+            initial_data_requested,
+            ..
+        } = self.0;
+        write!(
+            f,
+            "eventgroup 0x{eventgroup_id:04x}, counter {counter}, initial data requested {}",
+            YesNo(initial_data_requested)
+        )
+    }
 }
 
-fn group_words(rt: &impl Print, group: EventGroup) {
-    told(
-        rt,
-        b", eventgroup %04, counter %1d",
-        [group.eventgroup_id as u64, group.counter as u64, 0, 0, 0],
-    );
-    yes_or_no(
-        rt,
-        b", initial data requested ",
-        group.initial_data_requested,
-    );
-}
+// An entry without its runs.
+#[derive(Clone, Copy)]
+struct Entry(SdEntry);
 
-fn entry_words(rt: &impl Print, entry: SdEntry) {
-    match entry {
-        SdEntry::Service {
-            entry_type,
-            head,
-            minor_version,
-        } => {
-            service_word(rt, entry_type, head.ttl);
-            head_words(rt, head);
-            named(rt, b", minor version ", minor_version as usize);
-        }
-        SdEntry::Eventgroup {
-            entry_type,
-            head,
-            group,
-        } => {
-            eventgroup_word(rt, entry_type, head.ttl);
-            head_words(rt, head);
-            group_words(rt, group);
+impl fmt::Display for Entry {
+    fn fmt<W: fmt::Write>(&self, f: &mut fmt::Formatter<W>) -> fmt::Result {
+        match self.0 {
+            SdEntry::Service {
+                entry_type,
+                head,
+                minor_version,
+            } => {
+                let word = service_word(entry_type, head.ttl);
+                write!(f, "{word} {}, minor version {minor_version}", Head(head))
+            }
+            SdEntry::Eventgroup {
+                entry_type,
+                head,
+                group,
+            } => {
+                let word = eventgroup_word(entry_type, head.ttl);
+                write!(f, "{word} {}, {}", Head(head), Group(group))
+            }
         }
     }
 }
 
 // One of an entry's runs, on a line; nothing of an empty one.
-fn one_run(
-    rt: &impl Print,
-    name: &[u8],
-    start: u8,
-    count: u8,
-    options: &[u8],
-    table: &[u16],
-    total: usize,
-) {
+fn run(rt: &impl Print, number: usize, start: u8, count: u8, options: Options) {
     if count != 0 {
-        text(rt, name);
-        run(rt, options, table, total, RunCursor::new(start, count));
-        text(rt, b"\n");
+        let run = Run {
+            options,
+            start: RunCursor::new(start, count),
+        };
+        out(rt, format_args!("  run {number}{run}\n"));
     }
 }
 
-fn runs(rt: &impl Print, head: EntryHead, options: &[u8], table: &[u16], total: usize) {
-    one_run(
-        rt,
-        b"  run 1",
-        head.start_index_options_1,
-        head.number_of_options_1,
-        options,
-        table,
-        total,
-    );
-    one_run(
-        rt,
-        b"  run 2",
-        head.start_index_options_2,
-        head.number_of_options_2,
-        options,
-        table,
-        total,
-    );
-}
-
-// An entry with its number and its runs.
-fn listed(
-    rt: &impl Print,
-    place: usize,
-    entry: SdEntry,
-    options: &[u8],
-    table: &[u16],
-    total: usize,
-) {
-    named(rt, b"entry ", place);
-    text(rt, b": ");
-    entry_words(rt, entry);
-    text(rt, b"\n");
-    runs(rt, entry.head(), options, table, total);
-}
-
-// All entries, by the cursor; `total` is how many options there are.
-pub fn all(rt: &impl Print, entries: &[u8], options: &[u8], table: &[u16], total: usize) {
+// All entries, by the cursor, each with its number and its runs.
+pub fn all(rt: &impl Print, entries: &[u8], options: Options) {
     let mut cursor = EntryCursor::new();
-    let mut turns: usize = 0;
-    while turns < 100 {
+    for place in 0..MOST {
         let step = cursor.next(entries);
-        let answer = step.answer;
-        cursor = step.cursor;
-        let EntryAnswer::Good(entry) = answer else {
+        let Ok(entry) = step.answer else {
             return;
         };
-        listed(rt, turns, entry, options, table, total);
-        turns += 1;
+        out(rt, format_args!("entry {place}: {}\n", Entry(entry)));
+        let head = entry.head();
+        run(
+            rt,
+            1,
+            head.start_index_options_1,
+            head.number_of_options_1,
+            options,
+        );
+        run(
+            rt,
+            2,
+            head.start_index_options_2,
+            head.number_of_options_2,
+            options,
+        );
+        cursor = step.after;
     }
 }

@@ -1,199 +1,192 @@
 // Options: one in a few words beside an entry, one with all that it holds, the options of a run, and all of them.
-use print::{bytes, named, text, yes_or_no};
-use refusal::Count;
-use sd_field::{FieldsAnswer, IpAddress, SdOption};
-use sd_index::{FoundAnswer, Offset, Ordinal, RunCursor};
+use print::{Bytes, YesNo, out};
+use sd_field::{IpAddress, SdOption};
+use sd_index::{Offset, Ordinal, RunCursor};
 use sd_option::PLAIN;
 use sd_option::kinds::Role;
-use words::told;
+use std::fmt;
+use std::net::{Ipv4Addr, Ipv6Addr};
 
-fn family(rt: &impl Print, address: IpAddress) {
-    match address {
-        IpAddress::V4(_) => text(rt, b"IPv4 "),
-        IpAddress::V6(_, _, _, _) => text(rt, b"IPv6 "),
+// More than the items that a configuration string, or the options that a run, has at most.
+const MOST: usize = 1400;
+
+// A payload's options with the table of where they begin, and how many there are.
+#[derive(Clone, Copy)]
+pub struct Options<'a> {
+    pub bytes: &'a [u8],
+    pub table: &'a [u16],
+    pub count: usize,
+}
+
+impl<'a> Options<'a> {
+    // The bytes from an option on.
+    fn from(self, offset: Offset) -> &'a [u8] {
+        sd_index::option_at(self.bytes, offset)
     }
 }
 
-fn role_word(rt: &impl Print, role: Role) {
-    match role {
-        Role::Endpoint => text(rt, b"endpoint "),
-        Role::Multicast => text(rt, b"multicast "),
-        Role::SdEndpoint => text(rt, b"SD endpoint "),
-    }
-}
+#[derive(Clone, Copy)]
+struct Address(IpAddress);
 
-// The two halves of a word of an address.
-fn high(n: u32) -> u64 {
-    (n / 65536) as u64
-}
-
-fn low(n: u32) -> u64 {
-    (n % 65536) as u64
-}
-
-fn address(rt: &impl Print, address: IpAddress) {
-    match address {
-        IpAddress::V4(a) => told(
-            rt,
-            b"%0d.%1d.%2d.%3d",
-            [high(a) / 256, high(a) % 256, low(a) / 256, low(a) % 256, 0],
-        ),
-        IpAddress::V6(a, b, c, d) => {
-            told(
-                rt,
-                b"%0x:%1x:%2x:%3x:",
-                [high(a), low(a), high(b), low(b), 0],
-            );
-            told(
-                rt,
-                b"%0x:%1x:%2x:%3x",
-                [high(c), low(c), high(d), low(d), 0],
-            );
+impl fmt::Display for Address {
+    fn fmt<W: fmt::Write>(&self, f: &mut fmt::Formatter<W>) -> fmt::Result {
+        match self.0 {
+            IpAddress::V4(bytes) => write!(f, "{}", Ipv4Addr::from(bytes)),
+            IpAddress::V6(bytes) => {
+                // All eight groups: the library's own text leaves zeros out.
+                let [a, b, c, d, p, q, r, s] = Ipv6Addr::from(bytes).segments();
+                write!(f, "{a:x}:{b:x}:{c:x}:{d:x}:{p:x}:{q:x}:{r:x}:{s:x}")
+            }
         }
     }
 }
 
-fn protocol(rt: &impl Print, code: u8) {
-    match code {
-        0x06 => text(rt, b", TCP"),
-        0x11 => text(rt, b", UDP"),
-        _ => named(rt, b", protocol ", code as usize),
+fn family_word(address: IpAddress) -> &'static str {
+    match address {
+        IpAddress::V4(..) => "IPv4",
+        IpAddress::V6(..) => "IPv6",
+    }
+}
+
+fn role_word(role: Role) -> &'static str {
+    match role {
+        Role::Endpoint => "endpoint",
+        Role::Multicast => "multicast",
+        Role::SdEndpoint => "SD endpoint",
+    }
+}
+
+#[derive(Clone, Copy)]
+struct Protocol(u8);
+
+impl fmt::Display for Protocol {
+    fn fmt<W: fmt::Write>(&self, f: &mut fmt::Formatter<W>) -> fmt::Result {
+        match self.0 {
+            0x06 => write!(f, "TCP"),
+            0x11 => write!(f, "UDP"),
+            code => write!(f, "protocol {code}"),
+        }
     }
 }
 
 // An option in a few words: what it is, and where it points.
-fn brief(rt: &impl Print, option: SdOption) {
-    match option {
-        SdOption::Configuration { first: _ } => text(rt, b"configuration"),
-        SdOption::LoadBalancing {
-            first: _,
-            priority,
-            weight,
-        } => told(
-            rt,
-            b"load balancing, priority %0d, weight %1d",
-            [priority as u64, weight as u64, 0, 0, 0],
-        ),
-        SdOption::Address {
-            role,
-            first: _,
-            address: a,
-            reserved: _,
-            protocol: p,
-            port,
-        } => {
-            family(rt, a);
-            role_word(rt, role);
-            address(rt, a);
-            protocol(rt, p);
-            named(rt, b", port ", port as usize);
+#[derive(Clone, Copy)]
+struct Brief(SdOption);
+
+impl fmt::Display for Brief {
+    fn fmt<W: fmt::Write>(&self, f: &mut fmt::Formatter<W>) -> fmt::Result {
+        match self.0 {
+            SdOption::Configuration { .. } => write!(f, "configuration"),
+            SdOption::LoadBalancing {
+                priority,
+                weight,
+                ..
+            } => write!(f, "load balancing, priority {priority}, weight {weight}"),
+            SdOption::Address {
+                role,
+                address,
+                protocol,
+                port,
+                ..
+            } => {
+                let (family, role) = (family_word(address), role_word(role));
+                write!(
+                    f,
+                    "{family} {role} {}, {}, port {port}",
+                    Address(address),
+                    Protocol(protocol)
+                )
+            }
+            SdOption::Unknown { code, .. } => write!(f, "unknown type 0x{code:02x}"),
         }
-        SdOption::Unknown { code, first: _ } => told(
-            rt,
-            b"unknown type %02",
-            [code as u64, 0, 0, 0, 0],
-        ),
+    }
+}
+
+// What lookup finds was judged when the payload was read, by the settings of that reading: here its fields are read with none on.
+
+// The options of a run, by its cursor: their numbers, and each in a few words.
+#[derive(Clone, Copy)]
+pub(crate) struct Run<'a> {
+    pub(crate) options: Options<'a>,
+    pub(crate) start: RunCursor,
+}
+
+impl<'a> fmt::Display for Run<'a> {
+    fn fmt<W: fmt::Write>(&self, f: &mut fmt::Formatter<W>) -> fmt::Result {
+        let options = self.options;
+        let mut cursor = self.start;
+        let mut before = ": ";
+        for _ in 0..MOST {
+            let number = cursor.next.0;
+            let step = cursor.next(options.bytes, options.table, options.count);
+            let Ok(found) = step.answer else {
+                return Ok(());
+            };
+            f.write_str(before)?;
+            if let Ok(fields) = sd_field::read_fields(PLAIN, options.from(found.offset)) {
+                write!(f, "option {number} ({})", Brief(fields.option))?;
+            }
+            before = ", ";
+            cursor = step.after;
+        }
+        Ok(())
     }
 }
 
 // The items of a configuration string, each on a line.
 fn items(rt: &impl Print, string: &[u8]) {
-    let mut at: usize = 0;
-    let mut turns: usize = 0;
-    while turns < 1400 {
-        let answer = config_string::next_item(string, at);
-        let Count::Good(next) = answer else {
+    let mut at = 0;
+    for _ in 0..MOST {
+        let Ok(next) = config_string::next_item(string, at) else {
             return;
         };
-        text(rt, b"  item ");
-        bytes(rt, config_string::item_part(string, at));
-        text(rt, b"\n");
+        let item = Bytes(config_string::item_part(string, at));
+        out(rt, format_args!("  item {item}\n"));
         at = next;
-        turns += 1;
     }
 }
 
 // What stands behind them in the list; `rest` are the option's bytes after its first.
 fn details(rt: &impl Print, option: SdOption, rest: &[u8]) {
     match option {
-        SdOption::Configuration { first: _ } => {
-            text(rt, b"\n");
+        SdOption::Configuration { .. } => {
+            out(rt, "\n");
             items(rt, rest);
         }
-        SdOption::Unknown { code: _, first } => {
-            named(rt, b", bytes after the first ", rest.len());
-            yes_or_no(rt, b", may be discarded ", first.discardable);
-            text(rt, b"\n");
-        }
-        _ => text(rt, b"\n"),
+        SdOption::Unknown { first, .. } => out(
+            rt,
+            format_args!(
+                ", bytes after the first {}, may be discarded {}\n",
+                rest.len(),
+                YesNo(first.discardable)
+            ),
+        ),
+        _ => out(rt, "\n"),
     }
 }
 
-// What lookup finds was judged when the payload was read, by the settings of that reading: here its fields are read with none on.
-
-// An option of a run, by its number and where it stands in the options part: the number, and a few words.
-fn mentioned(rt: &impl Print, number: usize, options: &[u8], offset: Offset) {
-    let answer = sd_field::read_fields(PLAIN, sd_index::option_at(options, offset));
-    let FieldsAnswer::Good { option, size: _ } = answer else {
+// An option of the list, by its number and the bytes from it on: the number, and all that it holds.
+fn listed(rt: &impl Print, number: usize, bytes: &[u8]) {
+    let Ok(fields) = sd_field::read_fields(PLAIN, bytes) else {
         return;
     };
-    named(rt, b"option ", number);
-    text(rt, b" (");
-    brief(rt, option);
-    text(rt, b")");
-}
-
-// An option of the list, by the same: the number, and all that it holds.
-fn listed(rt: &impl Print, number: usize, options: &[u8], offset: Offset) {
-    let s = sd_index::option_at(options, offset);
-    let answer = sd_field::read_fields(PLAIN, s);
-    let FieldsAnswer::Good { option, size: _ } = answer else {
-        return;
-    };
-    named(rt, b"option ", number);
-    text(rt, b": ");
-    brief(rt, option);
-    details(rt, option, sd_field::option_rest(PLAIN, s));
-}
-
-// What stands in front of an option of a run: the first, or a later one.
-fn mark(rt: &impl Print, turns: usize) {
-    if turns == 0 {
-        text(rt, b": ");
-    } else {
-        text(rt, b", ");
-    }
-}
-
-// The options of a run, by its cursor: their numbers, and each in a few words.
-pub(crate) fn run(rt: &impl Print, options: &[u8], table: &[u16], count: usize, start: RunCursor) {
-    let mut cursor = start;
-    let mut turns: usize = 0;
-    while turns < 256 {
-        let next = cursor.next;
-        let step = cursor.next(options, table, count);
-        let answer = step.answer;
-        cursor = step.cursor;
-        let FoundAnswer::Good(found) = answer else {
-            return;
-        };
-        mark(rt, turns);
-        let offset = found.offset;
-        mentioned(rt, next.0, options, offset);
-        turns += 1;
-    }
+    let option = fields.option;
+    out(rt, format_args!("option {number}: {}", Brief(option)));
+    details(rt, option, sd_field::option_rest(PLAIN, bytes));
 }
 
 // All options, whether an entry points at them or not, each with its number and all that it holds.
-pub fn all(rt: &impl Print, options: &[u8], table: &[u16], count: usize) {
-    let mut place: usize = 0;
-    while place < count {
-        let answer = sd_index::look_up(options, table, count, Ordinal(place));
-        let FoundAnswer::Good(found) = answer else {
+pub fn all(rt: &impl Print, options: Options) {
+    for number in 0..options.count {
+        let answer = sd_index::look_up(
+            options.bytes,
+            options.table,
+            options.count,
+            Ordinal(number),
+        );
+        let Ok(found) = answer else {
             return;
         };
-        let offset = found.offset;
-        listed(rt, place, options, offset);
-        place += 1;
+        listed(rt, number, options.from(found.offset));
     }
 }

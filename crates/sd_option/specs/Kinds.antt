@@ -1,15 +1,13 @@
 -- What the code's kinds say, and the rules' table in the code's form. Assumes nothing: these are definitions.
-use Rattle.std.specs.Prelude.{ℕ, Bool, true, false, ◌||◌, cond, List, map, eqb}
+use Rattle.std.specs.Prelude.{ℕ, Bool, true, false, ◌||◌, cond, Option, Some, None, eqb}
 use Rattle.sd_format.specs.Options as format
-use Rattle.sd_format.specs.Kinds.{Kind, configuration, load_balancing, address, unknown, Length, exactly, one_or_more, Row, kinds}
+use Rattle.sd_format.specs.Kinds.{Kind, configuration, load_balancing, address, unknown, Length, exactly, one_or_more, Row}
 use Rattle.sd_option.specs.declared.kinds.Family.{Family}
 use Rattle.sd_option.specs.declared.kinds.Family.TheVariants as family
 use Rattle.sd_option.specs.declared.kinds.Role.{Role}
 use Rattle.sd_option.specs.declared.kinds.Role.TheVariants as role
 use Rattle.sd_option.specs.declared.kinds.OptionKind.{OptionKind}
 use Rattle.sd_option.specs.declared.kinds.OptionKind.TheVariants as kind
-use Rattle.sd_option.specs.declared.kinds.KindLength.{KindLength}
-use Rattle.sd_option.specs.declared.kinds.KindLength.TheVariants as len
 use Rattle.sd_option.specs.declared.kinds.KindRow.{KindRow}
 
 abbrev pub family_said : Family → format.Family
@@ -29,9 +27,9 @@ kind_said kind.Unknown = unknown
 
 -- ---- the table in the code's form
 
-abbrev pub length_encoded : Length → KindLength
-length_encoded (exactly n) = len.Exactly n
-length_encoded one_or_more = len.OneOrMore
+abbrev pub length_encoded : Length → Option ℕ
+length_encoded (exactly n) = Some n
+length_encoded one_or_more = None
 
 -- whether a protocol stands beside an address
 abbrev pub has_protocol : Kind → Bool
@@ -41,20 +39,13 @@ has_protocol (address f r) = true
 has_protocol unknown = false
 
 abbrev pub encoded : Row → KindRow
-encoded w = record { code = w.code; len = length_encoded w.len; has_protocol = has_protocol w.kind }
-
-abbrev pub rows : List KindRow
-rows = map encoded kinds
-
--- what a place past its end would hold
-abbrev pub blank : KindRow
-blank = record { code = 0; len = len.Exactly 0; has_protocol = false }
+encoded w = record { code = w.code; exact_len = length_encoded w.len; has_protocol = has_protocol w.kind }
 
 -- ---- and out of it
 
-abbrev pub length_said : KindLength → Length
-length_said (len.Exactly n) = exactly n
-length_said len.OneOrMore = one_or_more
+abbrev pub length_said : Option ℕ → Length
+length_said (Some n) = exactly n
+length_said None = one_or_more
 
 -- whether a protocol may stand beside the address of an option of this type: multicast's types have UDP alone
 abbrev pub taken : (code protocol : ℕ) → Bool

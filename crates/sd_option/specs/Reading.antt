@@ -1,31 +1,22 @@
 -- What the answers of the reading of one option say, in the words of the definitions. Assumes nothing: these are definitions.
-use Rattle.std.specs.Prelude.{ℕ, ◌-◌, ◌≡◌, Bool, false, not, ◌&&◌, cond, List, [], length, take, drop, ltb}
+use Rattle.std.specs.Prelude.{ℕ, ◌-◌, ◌≡◌, Bool, false, not, ◌&&◌, cond, List, [], length, take, drop, ltb, Result}
 use Rattle.numbers.specs.Refusals.{wrong_protocol}
-use Rattle.numbers.specs.Answers.{Answer, accepted, refused, Verdict, pass, ◌>>◌, refuse◌when◌else◌, further}
+use Rattle.numbers.specs.Answers.{Answer, Verdict, pass, ◌>>◌, refuse◌when◌else◌, further}
 use Rattle.sd_format.specs.Settings.{Settings}
 use Rattle.sd_format.specs.Kinds.{Kind, configuration, load_balancing, address, unknown, string_alone, judge_protocol, judge_content, unscanned}
 use Rattle.sd_format.specs.Frames.{Frame, size}
 use Rattle.sd_format.specs.Fields.{discardable}
-use Rattle.refusal.specs.Said.{said}
+use Rattle.refusal.specs.Said.{said_by}
 use Rattle.refusal.specs.declared.Refusal.{Refusal}
-use Rattle.refusal.specs.declared.Refusal.TheVariants.{NothingThere}
 use Rattle.sd_option.specs.declared.reading.OptionHead.{OptionHead}
-use Rattle.sd_option.specs.declared.reading.OptionAnswer.{OptionAnswer}
-use Rattle.sd_option.specs.declared.reading.OptionAnswer.TheVariants as option
 use Rattle.sd_option.specs.Kinds.{taken}
 
 -- what is told of an option: its type, the discardable bit, the bytes that it takes
 abbrev pub head_of : Frame → OptionHead
 head_of f = record { code = f.type; discardable = discardable f.body; size = size f }
 
-abbrev pub option_said : OptionAnswer → Answer OptionHead
-option_said (option.Good h) = accepted h
-option_said (option.Refused r) = refused (said r)
-
--- the refusal in an answer; where there is none it is never asked for
-abbrev pub option_refusal : OptionAnswer → Refusal
-option_refusal (option.Good h) = NothingThere
-option_refusal (option.Refused r) = r
+abbrev pub option_said : Result OptionHead Refusal → Answer OptionHead
+option_said = said_by (λ h. h)
 
 -- the bytes after the type, and how many they are
 abbrev pub body_of : Frame → List ℕ

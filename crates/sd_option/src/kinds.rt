@@ -1,7 +1,7 @@
 // The kinds of options: the rules' table of type codes and lengths, and what a type has there.
-ghost use Rattle.std.specs.Prelude.{◌≡◌, ◌<◌, get_or};
+ghost use Rattle.std.specs.Prelude.{◌≡◌};
 ghost use Rattle.sd_format.specs.Kinds.{row_of, kind_of};
-ghost use Rattle.sd_option.specs.Kinds.{kind_said, taken, encoded, rows, blank};
+ghost use Rattle.sd_option.specs.Kinds.{kind_said, taken, encoded};
 
 // The type codes.
 pub const CONFIGURATION: u8 = 0x01;
@@ -20,88 +20,74 @@ pub const IPV6_MULTICAST: u8 = 0x16;
 
 pub const IPV6_SD_ENDPOINT: u8 = 0x26;
 
-// The length that a kind asks of the bytes after the type.
-#[derive(Clone, Copy)]
-pub enum KindLength {
-    Exactly(u16),
-    OneOrMore,
-}
-
 // A row of the table.
 #[derive(Clone, Copy)]
 pub struct KindRow {
     pub code: u8,
-    pub len: KindLength,
+    pub exact_len: Option<usize>, // of the bytes after the type; a kind that has none asks for one byte or more
     pub has_protocol: bool, // beside an address
 }
 
 pub const KINDS: [KindRow; 8] = [
     KindRow {
         code: CONFIGURATION,
-        len: KindLength::OneOrMore,
+        exact_len: None,
         has_protocol: false,
     },
     KindRow {
         code: LOAD_BALANCING,
-        len: KindLength::Exactly(5),
+        exact_len: Some(5),
         has_protocol: false,
     },
     KindRow {
         code: IPV4_ENDPOINT,
-        len: KindLength::Exactly(9),
+        exact_len: Some(9),
         has_protocol: true,
     },
     KindRow {
         code: IPV4_MULTICAST,
-        len: KindLength::Exactly(9),
+        exact_len: Some(9),
         has_protocol: true,
     },
     KindRow {
         code: IPV4_SD_ENDPOINT,
-        len: KindLength::Exactly(9),
+        exact_len: Some(9),
         has_protocol: true,
     },
     KindRow {
         code: IPV6_ENDPOINT,
-        len: KindLength::Exactly(21),
+        exact_len: Some(21),
         has_protocol: true,
     },
     KindRow {
         code: IPV6_MULTICAST,
-        len: KindLength::Exactly(21),
+        exact_len: Some(21),
         has_protocol: true,
     },
     KindRow {
         code: IPV6_SD_ENDPOINT,
-        len: KindLength::Exactly(21),
+        exact_len: Some(21),
         has_protocol: true,
     },
 ];
 
-// A row of the table, by its place there.
-fn row_at(place: usize) -> KindRow
-    requires { place < 8 }
-    ensures { result ≡ get_or rows place blank }
-{
-    KINDS[place]
-}
-
 // The row of a type; an unknown type needs length 1 or more.
+#[tactic(auto, unfolding(sd_format::specs::Kinds::row_of, sd_format::specs::Kinds::row_in, sd_format::specs::Kinds::kinds))]
 pub fn row_of(code: u8) -> KindRow
     ensures { result ≡ encoded (row_of code) }
 {
     match code {
-        CONFIGURATION => row_at(0),
-        LOAD_BALANCING => row_at(1),
-        IPV4_ENDPOINT => row_at(2),
-        IPV4_MULTICAST => row_at(3),
-        IPV4_SD_ENDPOINT => row_at(4),
-        IPV6_ENDPOINT => row_at(5),
-        IPV6_MULTICAST => row_at(6),
-        IPV6_SD_ENDPOINT => row_at(7),
+        CONFIGURATION => KINDS[0],
+        LOAD_BALANCING => KINDS[1],
+        IPV4_ENDPOINT => KINDS[2],
+        IPV4_MULTICAST => KINDS[3],
+        IPV4_SD_ENDPOINT => KINDS[4],
+        IPV6_ENDPOINT => KINDS[5],
+        IPV6_MULTICAST => KINDS[6],
+        IPV6_SD_ENDPOINT => KINDS[7],
         _ => KindRow {
             code,
-            len: KindLength::OneOrMore,
+            exact_len: None,
             has_protocol: false,
         },
     }
@@ -117,19 +103,19 @@ pub(crate) fn takes(code: u8, protocol: u8) -> bool
 {
     match code {
         IPV4_MULTICAST | IPV6_MULTICAST => protocol == UDP,
-        _ => protocol == TCP || protocol == UDP,
+        _ => matches!(protocol, TCP | UDP),
     }
 }
 
 // Which addresses an option has.
-#[derive(Clone, Copy)]
+#[derive(Clone, Copy, PartialEq, Eq)]
 pub enum Family {
     Ipv4,
     Ipv6,
 }
 
 // What its address is for.
-#[derive(Clone, Copy)]
+#[derive(Clone, Copy, PartialEq, Eq)]
 pub enum Role {
     Endpoint,
     Multicast,
@@ -137,7 +123,7 @@ pub enum Role {
 }
 
 // The known kinds, and a type that is none of theirs.
-#[derive(Clone, Copy)]
+#[derive(Clone, Copy, PartialEq, Eq)]
 pub enum OptionKind {
     Configuration,
     LoadBalancing,
@@ -146,18 +132,21 @@ pub enum OptionKind {
 }
 
 // The kind of an option of this type.
-pub fn kind_of(code: u8) -> OptionKind
-    ensures { kind_said result ≡ kind_of code }
-{
-    match code {
-        CONFIGURATION => OptionKind::Configuration,
-        LOAD_BALANCING => OptionKind::LoadBalancing,
-        IPV4_ENDPOINT => OptionKind::Address(Family::Ipv4, Role::Endpoint),
-        IPV4_MULTICAST => OptionKind::Address(Family::Ipv4, Role::Multicast),
-        IPV4_SD_ENDPOINT => OptionKind::Address(Family::Ipv4, Role::SdEndpoint),
-        IPV6_ENDPOINT => OptionKind::Address(Family::Ipv6, Role::Endpoint),
-        IPV6_MULTICAST => OptionKind::Address(Family::Ipv6, Role::Multicast),
-        IPV6_SD_ENDPOINT => OptionKind::Address(Family::Ipv6, Role::SdEndpoint),
-        _ => OptionKind::Unknown,
+impl From<u8> for OptionKind {
+    ghost from_gives = { λ code kind. kind_said kind ≡ kind_of code };
+
+    #[tactic(auto, unfolding(sd_format::specs::Kinds::row_of, sd_format::specs::Kinds::row_in, sd_format::specs::Kinds::kinds))]
+    fn from(code: u8) -> OptionKind {
+        match code {
+            CONFIGURATION => OptionKind::Configuration,
+            LOAD_BALANCING => OptionKind::LoadBalancing,
+            IPV4_ENDPOINT => OptionKind::Address(Family::Ipv4, Role::Endpoint),
+            IPV4_MULTICAST => OptionKind::Address(Family::Ipv4, Role::Multicast),
+            IPV4_SD_ENDPOINT => OptionKind::Address(Family::Ipv4, Role::SdEndpoint),
+            IPV6_ENDPOINT => OptionKind::Address(Family::Ipv6, Role::Endpoint),
+            IPV6_MULTICAST => OptionKind::Address(Family::Ipv6, Role::Multicast),
+            IPV6_SD_ENDPOINT => OptionKind::Address(Family::Ipv6, Role::SdEndpoint),
+            _ => OptionKind::Unknown,
+        }
     }
 }

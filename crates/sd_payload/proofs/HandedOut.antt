@@ -1,6 +1,10 @@
 -- What the code's cursors and lookup hand out, beside those of the definitions: a cursor of the code that stands at the same place hands out the
 -- same, and the bytes of an option are its layout. Assumes nothing.
-use Prim.Native.Nat.{ℕ, zero, suc}
+use Rattle.sd_index.specs.declared.lookup.Found.{Found}
+use Rattle.sd_option.specs.declared.reading.OptionHead.{OptionHead}
+use Rattle.sd_entry.specs.declared.SdEntry.{SdEntry}
+use Rattle.refusal.specs.declared.answers.Step.{Step}
+use Prim.Native.Nat.{ℕ}
 use mathlib.Core.Path.{◌≡◌, refl, sym, ap, ◌∙◌, subst}
 use mathlib.Core.List.{List, [], ◌∷◌, map, map-id}
 use lib.ListN.{length, take, drop, get_or}
@@ -23,13 +27,10 @@ use Rattle.sd_format.proofs.BitLaws.{first_back}
 use Rattle.sd_format.proofs.FieldLaws.{wired}
 use Rattle.sd_option.specs.Reading.{head_of, option_said}
 use Rattle.sd_entry.specs.declared.cursor.EntryCursor.{EntryCursor}
-use Rattle.sd_entry.specs.declared.cursor.EntryStep.{EntryStep}
 use Rattle.sd_entry.specs.Said.{answer_said}
 use Rattle.sd_entry.specs.Steps.{Stepped}
 use Rattle.sd_index.specs.declared.cursor.OptionCursor.{OptionCursor}
-use Rattle.sd_index.specs.declared.cursor.OptionStep.{OptionStep}
 use Rattle.sd_index.specs.declared.cursor.RunCursor.{RunCursor}
-use Rattle.sd_index.specs.declared.cursor.RunStep.{RunStep}
 use Rattle.sd_index.specs.Found.{found_said, by_table, look_up_told}
 use Rattle.sd_index.specs.Steps.{OptionStepped, run_said, RunStepped}
 use Rattle.sd_index.proofs.OptionPinned.{slot_reads}
@@ -78,30 +79,20 @@ frames_told g (o ∷ os) fit =
     } in
     λ i. first i ∷ frames_told g os fit.1 i
 
-pub take_map : {A B : Type 0} (f : A → B) (n : ℕ) (xs : List A) → map f (take n xs) ≡ take n (map f xs)
-take_map f zero xs = refl
-take_map f (suc n) [] = refl
-take_map f (suc n) (x ∷ xs) = λ i. f x ∷ take_map f n xs i
-
-pub drop_map : {A B : Type 0} (f : A → B) (n : ℕ) (xs : List A) → map f (drop n xs) ≡ drop n (map f xs)
-drop_map f zero xs = refl
-drop_map f (suc n) [] = refl
-drop_map f (suc n) (x ∷ xs) = drop_map f n xs
-
 -- ---- the cursors and lookup, over any bytes
 
-module _ (s : List ℕ) (next : EntryCursor → EntryStep) (meets : (c : EntryCursor) → Stepped s c.at (next c)) where
+module _ (s : List ℕ) (next : EntryCursor → Step SdEntry EntryCursor) (meets : (c : EntryCursor) → Stepped s c.at (next c)) where
   pub entries_too : {xs : List Entry} → HandsOut (next_entry s) (behind sixteen) 0 xs → (new : EntryCursor) → new.at ≡ 0
-      → HandsOut (λ c. answer_said (next c).answer) (λ e c. (next c).cursor) new xs
+      → HandsOut (λ c. answer_said (next c).answer) (λ e c. (next c).after) new xs
   entries_too {xs} hands new first =
-      subst (HandsOut (λ c. answer_said (next c).answer) (λ e c. (next c).cursor) new) (map-id xs)
-      (hands_too (next_entry s) (behind sixteen) (λ c. answer_said (next c).answer) (λ c. (next c).cursor) (λ c. c.at) (λ e. e)
+      subst (HandsOut (λ c. answer_said (next c).answer) (λ e c. (next c).after) new) (map-id xs)
+      (hands_too (next_entry s) (behind sixteen) (λ c. answer_said (next c).answer) (λ c. (next c).after) (λ c. c.at) (λ e. e)
       (λ c r e. (meets c).answer ∙ e)
       (λ c x e. ((meets c).answer ∙ e, (meets c).cursor ∙ ap (λ (a : Answer Entry). stands (behind sixteen) a c.at) e))
       hands new first)
 
 module _ (s : List ℕ) (b : Bytes s) where
-  module _ (h : Settings) (next : OptionCursor → OptionStep) (meets : (c : OptionCursor) → OptionStepped h s c.at.0 (next c)) where
+  module _ (h : Settings) (next : OptionCursor → Step OptionHead OptionCursor) (meets : (c : OptionCursor) → OptionStepped h s c.at.0 (next c)) where
     abbrev next_told : OptionCursor → Answer Told
     next_told c = given (told_at s c.at.0) (option_said (next c).answer)
 
@@ -113,7 +104,7 @@ module _ (s : List ℕ) (b : Bytes s) where
     option_ends c r e = came_told c ∙ ap (λ (a : Answer Frame). given (told_at s c.at.0) (given head_of a)) e
 
     option_gives : (c : OptionCursor) (f : Frame) → next_option h s c.at.0 ≡ accepted f
-        → (next_told c ≡ accepted (frame_told f)) × ((next c).cursor.at.0 ≡ behind size f c.at.0)
+        → (next_told c ≡ accepted (frame_told f)) × ((next c).after.at.0 ≡ behind size f c.at.0)
     unfolding given next_at
     option_gives c f e = (
       came_told c ∙ ap (λ (a : Answer Frame). given (told_at s c.at.0) (given head_of a)) e
@@ -122,9 +113,9 @@ module _ (s : List ℕ) (b : Bytes s) where
     )
 
     pub options_too : {fs : List Frame} → HandsOut (next_option h s) (behind size) 0 fs → (new : OptionCursor) → new.at.0 ≡ 0
-        → HandsOut next_told (λ o c. (next c).cursor) new (map frame_told fs)
+        → HandsOut next_told (λ o c. (next c).after) new (map frame_told fs)
     options_too hands new first =
-        hands_too (next_option h s) (behind size) next_told (λ c. (next c).cursor) (λ c. c.at.0) frame_told option_ends option_gives hands new first
+        hands_too (next_option h s) (behind size) next_told (λ c. (next c).after) (λ c. c.at.0) frame_told option_ends option_gives hands new first
 
   module _ (tab : List ℕ) (count : ℕ) where
     pub found_told : (k : ℕ) → given (told_found s) (look_up_told s tab count k) ≡ given frame_told (look_up s tab count k)
@@ -135,7 +126,7 @@ module _ (s : List ℕ) (b : Bytes s) where
         go (accepted f) e = ap accepted (frame_bytes unscanned s (get_or tab k 0) f b (slot_reads s tab count k f e))
         go (refused r) e = refl
 
-    module _ (next : RunCursor → RunStep) (meets : (c : RunCursor) → RunStepped s tab count (run_said c) (next c)) where
+    module _ (next : RunCursor → Step Found RunCursor) (meets : (c : RunCursor) → RunStepped s tab count (run_said c) (next c)) where
       abbrev run_told : RunCursor → Answer Told
       run_told c = given (told_found s) (found_said (next c).answer)
 
@@ -147,7 +138,7 @@ module _ (s : List ℕ) (b : Bytes s) where
       run_ends c r e = came_found c ∙ ap (λ (a : Answer Frame). given (told_found s) (by_table tab c.next.0 a)) e
 
       run_gives : (c : RunCursor) (f : Frame) → next_of_run s tab count (run_said c) ≡ accepted f
-          → (run_told c ≡ accepted (frame_told f)) × (run_said (next c).cursor ≡ along f (run_said c))
+          → (run_told c ≡ accepted (frame_told f)) × (run_said (next c).after ≡ along f (run_said c))
       unfolding given next_of_run
       run_gives c f e = (
         came_found c ∙ ap (λ (a : Answer Frame). given (told_found s) (by_table tab c.next.0 a)) e
@@ -156,6 +147,6 @@ module _ (s : List ℕ) (b : Bytes s) where
       )
 
       pub run_too : {r : Run} {fs : List Frame} → HandsOut (next_of_run s tab count) along r fs → (new : RunCursor) → run_said new ≡ r
-          → HandsOut run_told (λ o c. (next c).cursor) new (map frame_told fs)
+          → HandsOut run_told (λ o c. (next c).after) new (map frame_told fs)
       run_too hands new first =
-          hands_too (next_of_run s tab count) along run_told (λ c. (next c).cursor) run_said frame_told run_ends run_gives hands new first
+          hands_too (next_of_run s tab count) along run_told (λ c. (next c).after) run_said frame_told run_ends run_gives hands new first

@@ -1,3 +1,4 @@
+pub mod Tests
 pub mod SizeLaws
 pub mod HeaderLaws
 pub mod EntryLoop

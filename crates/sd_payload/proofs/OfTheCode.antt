@@ -1,12 +1,15 @@
 -- Demand 3 and the place of a refusal, of the functions themselves, from their promises and from the same of the definitions. Assumes nothing.
+use Rattle.std.specs.Prelude.{Result, Ok, Err}
+use Rattle.refusal.specs.declared.Refusal.{Refusal}
 use Prim.Native.Nat.{ℕ, ◌≤◌}
 use mathlib.Core.Path.{◌≡◌, refl, sym, ap, ◌∙◌, subst}
 use mathlib.Core.Logic.{◌⊎◌, ⊎_elim}
 use mathlib.Core.List.{List, map}
 use native.Mathlib.Omega.{arith}
 use lib.ListN.{length, drop, length-map}
+use Rattle.std.proofs.lemmas.List.{take-map, drop-map}
 use Rattle.numbers.specs.Refusals as paper
-use Rattle.numbers.specs.Refusals.{Refusal, untold}
+use Rattle.numbers.specs.Refusals.{untold}
 use Rattle.numbers.specs.Answers.{Answer, accepted, refused, given}
 use Rattle.numbers.specs.Bytes.{Bytes}
 use Rattle.numbers.proofs.AnswerLaws.{accepted_inj, not_refused, given_accepted, given_refused, then_accepted, then_pass}
@@ -28,14 +31,12 @@ use Rattle.sd_format.proofs.CallLaws.{lent_exactly, message_exact}
 use Rattle.sd_format.proofs.FaultLaws.{place_is_the_place}
 use Rattle.refusal.specs.Said.{said}
 use Rattle.sd_payload.specs.declared.reading.SdPayload.{SdPayload}
-use Rattle.sd_payload.specs.declared.reading.PayloadAnswer.{PayloadAnswer}
-use Rattle.sd_payload.specs.declared.reading.PayloadAnswer.TheVariants.{Good, Refused}
 use Rattle.sd_payload.specs.Reads.{summed, payload_said, PayloadRead}
 use Rattle.sd_payload.specs.Sized.{sized}
 use Rattle.sd_payload.specs.Parts.{handed}
 use Rattle.sd_payload.specs.OfTheCode.{summary, Told, told, told_found, AsLaidOut, RefusedThere, OfTheCode, OfTheMessage}
 use Rattle.sd_payload.proofs.PartLaws.{handed_part}
-use Rattle.sd_payload.proofs.HandedOut.{frame_told, frames_told, take_map, drop_map, entries_too, options_too, found_told, run_too}
+use Rattle.sd_payload.proofs.HandedOut.{frame_told, frames_told, entries_too, options_too, found_told, run_too}
 
 -- ---- what is accepted
 
@@ -43,30 +44,30 @@ bytes_entries : (s : List ℕ) → Bytes s → Bytes (entries_part s)
 unfolding entries_part
 bytes_entries s b = bytes_take (drop 8 s) (entries_length s) (bytes_drop s 8 b)
 
-good : (r : PayloadAnswer) (u : SdPayload) → payload_said r ≡ accepted u → (p : SdPayload) × (r ≡ Good p)
-good (Good p) u e = (p, refl)
-good (Refused r) u e = not_refused _ u e
+good : (r : Result SdPayload Refusal) (u : SdPayload) → payload_said r ≡ accepted u → (p : SdPayload) × (r ≡ Ok p)
+good (Ok p) u e = (p, refl)
+good (Err r) u e = not_refused _ u e
 
 -- the parts of a payload that was accepted
-handed_whole : (g : Settings) (s : List ℕ) (rd : Reading) (r : PayloadAnswer) (p : SdPayload) (bytes : List ℕ) → read_payload g s ≡ accepted rd → r ≡ Good p
+handed_whole : (g : Settings) (s : List ℕ) (rd : Reading) (r : Result SdPayload Refusal) (p : SdPayload) (bytes : List ℕ) → read_payload g s ≡ accepted rd → r ≡ Ok p
     → handed r s bytes ≡ bytes
 unfolding read_payload sized
-handed_whole g s rd r p bytes read e = rw e (sym (handed_part (Good p) s _ (then_pass _ _ (then_accepted _ _ rd read).0) bytes))
+handed_whole g s rd r p bytes read e = rw e (sym (handed_part (Ok p) s _ (then_pass _ _ (then_accepted _ _ rd read).0) bytes))
 
 -- ---- where it is refused
 
-pub told_there : (g : Settings) (s : List ℕ) → Bytes s → (q : Refusal) (p : ℕ) → q.place ≡ paper.told p
+pub told_there : (g : Settings) (s : List ℕ) → Bytes s → (q : paper.Refusal) (p : ℕ) → q.place ≡ paper.told p
     → (q.place ≡ untold) ⊎ (read_options g (options_part s) ≡ refused q) → RefusedThere g (options_part s) q
 told_there g s b q p there =
     ⊎_elim
     (λ none. let same : untold ≡ paper.told p = sym none ∙ there in let z : ◌≡◌ {A = ℕ} 0 1 = cc in absurd (omega arith))
     ((place_is_the_place g (options_part s) (bytes_options s b)).options q).0
 
-module _ (g : Settings) (s tab tab' : List ℕ) (r : PayloadAnswer) (b : Bytes s) (long : 347 ≤ length tab) (h : PayloadRead (read_payload g s) tab tab' r) where
+module _ (g : Settings) (s tab tab' : List ℕ) (r : Result SdPayload Refusal) (b : Bytes s) (long : 347 ≤ length tab) (h : PayloadRead (read_payload g s) tab tab' r) where
   came : payload_said r ≡ given summed (read_payload g s)
   came = h.told ∙ ap (given summed) ((lent_exactly tab (read_payload g s)).enough long)
 
-  laid_out : (p : SdPayload) → r ≡ Good p → (q : Payload) × LaidOut g s q
+  laid_out : (p : SdPayload) → r ≡ Ok p → (q : Payload) × LaidOut g s q
   unfolding handed_out given
   laid_out p e =
       let (rd, read, same) = given_accepted summed (read_payload g s) _ (sym came ∙ ap payload_said e) in
@@ -133,14 +134,14 @@ module _ (g : Settings) (s tab tab' : List ℕ) (r : PayloadAnswer) (b : Bytes s
           looked_up = λ ordinal found is.
               ap (given (told_found (options_part s))) is ∙ found_told (options_part s) bytes (table_left g s tab) (length q.options) ordinal.0 ∙ as_counted ordinal.0;
           run_handed = λ next meets start left new first.
-              rw (← frames, ← (drop_map frame_told start (map wire q.options)), ← (take_map frame_told left (drop start (map wire q.options))))
+              rw (← frames, drop-map frame_told start (map wire q.options), take-map frame_told left (drop start (map wire q.options)))
               (run_too (options_part s) bytes (table_left g s tab) (length q.options) next meets (both.runs tab long start left) new first);
         }
 
-    count_is : (p : SdPayload) → r ≡ Good p → p.options ≡ length q.options
+    count_is : (p : SdPayload) → r ≡ Ok p → p.options ≡ length q.options
     count_is p e = ap (λ (u : SdPayload). u.options) (accepted_inj _ (summary q) (sym (ap payload_said e) ∙ answered))
 
-    after_it : (p : SdPayload) → r ≡ Good p → (entries options : List ℕ) → entries ≡ handed r s (entries_part s) → options ≡ handed r s (options_part s)
+    after_it : (p : SdPayload) → r ≡ Ok p → (entries options : List ℕ) → entries ≡ handed r s (entries_part s) → options ≡ handed r s (options_part s)
         → AsLaidOut g q r p.options tab' entries options
     after_it p e entries options is-entries is-options =
         let (rd, read, same) = reading in
@@ -155,21 +156,21 @@ module _ (g : Settings) (s tab tab' : List ℕ) (r : PayloadAnswer) (b : Bytes s
       record {
         exactly = ((λ a. laid_out a.0 a.1), (λ a. good r (summary a.0) (answered a.0 a.1)));
         after = λ p q e laid. after_it q laid p e;
-        empty = λ q e bytes part is. is ∙ ap (λ (x : PayloadAnswer). handed x s bytes) e;
+        empty = λ q e bytes part is. is ∙ ap (λ (x : Result SdPayload Refusal). handed x s bytes) e;
         place = λ q e p there. told_there g s b (said q) p there ((place_is_the_place g s b).payload (said q) (given_refused summed _ (said q) (sym came ∙ ap payload_said e)));
       }
 
 -- ---- the message
 
-module _ (g : Settings) (m tab tab' : List ℕ) (r : PayloadAnswer) (b : Bytes m) (long : 347 ≤ length tab) (h : PayloadRead (read_message g m) tab tab' r) where
+module _ (g : Settings) (m tab tab' : List ℕ) (r : Result SdPayload Refusal) (b : Bytes m) (long : 347 ≤ length tab) (h : PayloadRead (read_message g m) tab tab' r) where
   message_came : payload_said r ≡ given summed (read_message g m)
   message_came = h.told ∙ ap (given summed) ((lent_exactly tab (read_message g m)).enough long)
 
-  read_with : (p : SdPayload) → r ≡ Good p → (rd : Reading) × (read_message g m ≡ accepted rd)
+  read_with : (p : SdPayload) → r ≡ Ok p → (rd : Reading) × (read_message g m ≡ accepted rd)
   read_with p e = let (rd, read, same) = given_accepted summed (read_message g m) _ (sym message_came ∙ ap payload_said e) in (rd, read)
 
   -- the reading of the payload behind the header promises the same
-  payload_behind : (p : SdPayload) → r ≡ Good p → PayloadRead (read_payload g (drop 16 m)) tab tab' r
+  payload_behind : (p : SdPayload) → r ≡ Ok p → PayloadRead (read_payload g (drop 16 m)) tab tab' r
   unfolding read_message
   payload_behind p e =
       let (rd, read) = read_with p e in

@@ -1,6 +1,8 @@
 -- Demand 3 and the place of a refusal, of the functions themselves: what is so of every outcome that the promises of `read_payload`, `read_message`, the parts, `look_up` and
 -- the cursors allow; proofs/OfTheCode.antt proves it. Assumes nothing: these are definitions.
-use Rattle.std.specs.Prelude.{ℕ, ◌≡◌, ◌↔◌, ◌⊎◌, List, [], map, length, take, drop, get_or}
+use Rattle.sd_entry.specs.declared.SdEntry.{SdEntry}
+use Rattle.refusal.specs.declared.answers.Step.{Step}
+use Rattle.std.specs.Prelude.{ℕ, ◌≡◌, ◌↔◌, ◌⊎◌, List, [], map, length, take, drop, get_or, Result, Ok, Err}
 use Rattle.numbers.specs.Refusals as paper
 use Rattle.numbers.specs.Answers.{accepted, given}
 use Rattle.refusal.specs.declared.Refusal.{Refusal}
@@ -15,21 +17,15 @@ use Rattle.sd_format.specs.Faults.{Stopped, NotPermitted}
 use Rattle.sd_option.specs.declared.reading.OptionHead.{OptionHead}
 use Rattle.sd_option.specs.Reading.{option_said}
 use Rattle.sd_entry.specs.declared.cursor.EntryCursor.{EntryCursor}
-use Rattle.sd_entry.specs.declared.cursor.EntryStep.{EntryStep}
 use Rattle.sd_entry.specs.Said.{answer_said}
 use Rattle.sd_entry.specs.Steps.{Stepped}
 use Rattle.sd_index.specs.declared.Ordinal.{Ordinal}
 use Rattle.sd_index.specs.declared.lookup.Found.{Found}
-use Rattle.sd_index.specs.declared.lookup.FoundAnswer.{FoundAnswer}
 use Rattle.sd_index.specs.declared.cursor.OptionCursor.{OptionCursor}
-use Rattle.sd_index.specs.declared.cursor.OptionStep.{OptionStep}
 use Rattle.sd_index.specs.declared.cursor.RunCursor.{RunCursor}
-use Rattle.sd_index.specs.declared.cursor.RunStep.{RunStep}
 use Rattle.sd_index.specs.Found.{found_said, look_up_told}
 use Rattle.sd_index.specs.Steps.{OptionStepped, run_of, run_said, RunStepped}
 use Rattle.sd_payload.specs.declared.reading.SdPayload.{SdPayload}
-use Rattle.sd_payload.specs.declared.reading.PayloadAnswer.{PayloadAnswer}
-use Rattle.sd_payload.specs.declared.reading.PayloadAnswer.TheVariants.{Good, Refused}
 use Rattle.sd_payload.specs.Reads.{flags_laid, payload_said}
 use Rattle.sd_payload.specs.Parts.{handed}
 
@@ -66,26 +62,26 @@ told_found part l = told_at part l.offset.0 l.head
 
 -- After the payload that `q` lays out was read under the settings `g` with the answer `r` and the table `tab`, of so many options, and the two parts
 -- were handed out. A cursor is any function that meets the promise of its `next`, from any cursor that meets the promise of its `new`.
-pub record AsLaidOut (g : Settings) (q : Payload) (r : PayloadAnswer) (count : ℕ) (tab entries options : List ℕ) : Type 0 where
+pub record AsLaidOut (g : Settings) (q : Payload) (r : Result SdPayload Refusal) (count : ℕ) (tab entries options : List ℕ) : Type 0 where
   -- the answer tells its flags and counts
   pub answer : payload_said r ≡ accepted (summary q)
   -- the parts are its entries and its options, laid out
   pub entries_part : entries ≡ lay_entries q.entries
   pub options_part : options ≡ lay_options q.options
   -- the cursors hand out its entries and its options, one after the other, and then 20; the option cursor under any settings that ask no more
-  pub entries_handed : (next : EntryCursor → EntryStep) → ((c : EntryCursor) → Stepped entries c.at (next c))
+  pub entries_handed : (next : EntryCursor → Step SdEntry EntryCursor) → ((c : EntryCursor) → Stepped entries c.at (next c))
       → (new : EntryCursor) → new.at ≡ 0
-      → HandsOut (λ c. answer_said (next c).answer) (λ e c. (next c).cursor) new q.entries
-  pub options_handed : (h : Settings) → NoStricter h g → (next : OptionCursor → OptionStep) → ((c : OptionCursor) → OptionStepped h options c.at.0 (next c))
+      → HandsOut (λ c. answer_said (next c).answer) (λ e c. (next c).after) new q.entries
+  pub options_handed : (h : Settings) → NoStricter h g → (next : OptionCursor → Step OptionHead OptionCursor) → ((c : OptionCursor) → OptionStepped h options c.at.0 (next c))
       → (new : OptionCursor) → new.at.0 ≡ 0
-      → HandsOut (λ c. given (told_at options c.at.0) (option_said (next c).answer)) (λ o c. (next c).cursor) new (map told q.options)
+      → HandsOut (λ c. given (told_at options c.at.0) (option_said (next c).answer)) (λ o c. (next c).after) new (map told q.options)
   -- looking up any number gives what counting from the front gives
-  pub looked_up : (ordinal : Ordinal) (found : FoundAnswer) → found_said found ≡ look_up_told options tab count ordinal.0
+  pub looked_up : (ordinal : Ordinal) (found : Result Found Refusal) → found_said found ≡ look_up_told options tab count ordinal.0
       → given (told_found options) (found_said found) ≡ given told (counted q.options ordinal.0)
   -- the run cursor hands out the options of its run, as far as the list goes
-  pub run_handed : (next : RunCursor → RunStep) → ((c : RunCursor) → RunStepped options tab count (run_said c) (next c))
+  pub run_handed : (next : RunCursor → Step Found RunCursor) → ((c : RunCursor) → RunStepped options tab count (run_said c) (next c))
       → (start left : ℕ) (new : RunCursor) → run_said new ≡ run_of start left
-      → HandsOut (λ c. given (told_found options) (found_said (next c).answer)) (λ o c. (next c).cursor) new
+      → HandsOut (λ c. given (told_found options) (found_said (next c).answer)) (λ o c. (next c).after) new
       (take left (drop start (map told q.options)))
 
 -- where options are refused: at one of them, or when all are read
@@ -93,23 +89,23 @@ abbrev pub RefusedThere : Settings → (options : List ℕ) → paper.Refusal �
 RefusedThere g options q = Stopped g options q ⊎ NotPermitted g options q
 
 -- the payload `s` was read with the answer `r` and left the table `tab`
-pub record OfTheCode (g : Settings) (s tab : List ℕ) (r : PayloadAnswer) : Type 0 where
+pub record OfTheCode (g : Settings) (s tab : List ℕ) (r : Result SdPayload Refusal) : Type 0 where
   -- what is accepted is laid out, and what is laid out is accepted
-  pub exactly : ((p : SdPayload) × (r ≡ Good p)) ↔ ((q : Payload) × LaidOut g s q)
+  pub exactly : ((p : SdPayload) × (r ≡ Ok p)) ↔ ((q : Payload) × LaidOut g s q)
   -- and then all that is handed out is what was laid out
-  pub after : (p : SdPayload) (q : Payload) → r ≡ Good p → LaidOut g s q
+  pub after : (p : SdPayload) (q : Payload) → r ≡ Ok p → LaidOut g s q
       → (entries options : List ℕ) → entries ≡ handed r s (entries_part s) → options ≡ handed r s (options_part s)
       → AsLaidOut g q r p.options tab entries options
   -- after a refusal no bytes are handed out
-  pub empty : (q : Refusal) → r ≡ Refused q → (bytes part : List ℕ) → part ≡ handed r s bytes → part ≡ []
+  pub empty : (q : Refusal) → r ≡ Err q → (bytes part : List ℕ) → part ≡ handed r s bytes → part ≡ []
   -- and a place that it tells is the place in the options
-  pub place : (q : Refusal) → r ≡ Refused q → (p : ℕ) → (said q).place ≡ paper.told p → RefusedThere g (options_part s) (said q)
+  pub place : (q : Refusal) → r ≡ Err q → (p : ℕ) → (said q).place ≡ paper.told p → RefusedThere g (options_part s) (said q)
 
 -- the message `m` was read with the answer `r` and left the table `tab`
-pub record OfTheMessage (g : Settings) (m tab : List ℕ) (r : PayloadAnswer) : Type 0 where
+pub record OfTheMessage (g : Settings) (m tab : List ℕ) (r : Result SdPayload Refusal) : Type 0 where
   -- what is accepted is laid out, and what is laid out is accepted
-  pub exactly : ((p : SdPayload) × (r ≡ Good p)) ↔ ((q : Payload) × MessageLaidOut g m q)
+  pub exactly : ((p : SdPayload) × (r ≡ Ok p)) ↔ ((q : Payload) × MessageLaidOut g m q)
   -- and then all is as after the reading of the payload behind the header
-  pub after : (p : SdPayload) → r ≡ Good p → OfTheCode g (drop 16 m) tab r
+  pub after : (p : SdPayload) → r ≡ Ok p → OfTheCode g (drop 16 m) tab r
   -- a place that a refusal tells is the place in the options, the header not counted
-  pub place : (q : Refusal) → r ≡ Refused q → (p : ℕ) → (said q).place ≡ paper.told p → RefusedThere g (options_part (drop 16 m)) (said q)
+  pub place : (q : Refusal) → r ≡ Err q → (p : ℕ) → (said q).place ≡ paper.told p → RefusedThere g (options_part (drop 16 m)) (said q)

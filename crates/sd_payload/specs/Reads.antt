@@ -1,14 +1,14 @@
 -- What is promised of reading a payload into a lent table. Assumes nothing: these are definitions.
-use Rattle.std.specs.Prelude.{ℕ, ◌≡◌, List, length, get_or}
-use Rattle.numbers.specs.Answers.{Answer, accepted, refused, given}
+use Rattle.refusal.specs.declared.Refusal.{Refusal}
+use Rattle.std.specs.Prelude.{ℕ, ◌≡◌, List, length, get_or, Result, Ok, Err}
+use Rattle.numbers.specs.Answers.{Answer, given}
 use Rattle.sd_format.specs.Frames.{lent, table_after}
 use Rattle.sd_format.specs.Layout.{Flags}
 use Rattle.sd_format.specs.Payload.{Reading, frames_of, flags}
-use Rattle.refusal.specs.Said.{said}
+use Rattle.refusal.specs.Said.{said_by}
+use Rattle.sd_index.specs.Indexed.{cleared}
 use Rattle.sd_payload.specs.declared.reading.SdHeaderFlags.{SdHeaderFlags}
 use Rattle.sd_payload.specs.declared.reading.SdPayload.{SdPayload}
-use Rattle.sd_payload.specs.declared.reading.PayloadAnswer.{PayloadAnswer}
-use Rattle.sd_payload.specs.declared.reading.PayloadAnswer.TheVariants.{Good, Refused}
 
 -- the flags in the code's form
 abbrev pub flags_laid : Flags → SdHeaderFlags
@@ -18,11 +18,15 @@ flags_laid f = record { reboot = f.reboot; unicast = f.unicast; explicit_initial
 abbrev pub summed : Reading → SdPayload
 summed r = record { flags = flags_laid (flags (get_or r.opening 0 0)); entries = length r.entries; options = length r.frames }
 
-abbrev pub payload_said : PayloadAnswer → Answer SdPayload
-payload_said (Good p) = accepted p
-payload_said (Refused r) = refused (said r)
+abbrev pub payload_said : Result SdPayload Refusal → Answer SdPayload
+payload_said = said_by (λ p. p)
+
+-- a table that a reading left so, once it is cleared where the reading was refused
+abbrev pub settled : Result SdPayload Refusal → List ℕ → List ℕ
+settled (Ok p) left = left
+settled (Err r) left = cleared left
 
 -- what was read of the payload, and the lent table before and after
-pub record PayloadRead (a : Answer Reading) (tab tab' : List ℕ) (r : PayloadAnswer) : Type 0 where
+pub record PayloadRead (a : Answer Reading) (tab tab' : List ℕ) (r : Result SdPayload Refusal) : Type 0 where
   pub told : payload_said r ≡ given summed (lent tab a)
   pub slots : tab' ≡ table_after tab (frames_of a)

@@ -4,20 +4,16 @@ ghost use Rattle.numbers.specs.Answers.{verdict};
 ghost use Rattle.sd_format.specs.Entries.{read_entries};
 ghost use Rattle.refusal.specs.Said.{verdict_said};
 
-use refusal::Verdict;
+use refusal::Refusal;
 use sd_entry::{ENTRY_LEN, judge_entry};
 
 // The first refusal of an entry beside so many options: 11, 12 for run 1, 12 for run 2.
-pub(crate) fn judge_entries(entries: &[u8], options: usize) -> Verdict
+#[tactic(auto, using(crate::proofs::EntryLoop::entries_end, crate::proofs::EntryLoop::entries_stop, crate::proofs::EntryLoop::entries_more))]
+pub(crate) fn judge_entries(entries: &[u8], options: usize) -> Result<(), Refusal>
     ensures { verdict_said result ≡ verdict (read_entries options entries.now) }
 {
-    let mut at: usize = 0;
-    while at < entries.len() {
-        let answer = judge_entry(&entries[at..], options);
-        let Verdict::Passed = answer else {
-            return answer;
-        };
-        at += ENTRY_LEN;
+    for entry in entries.chunks(ENTRY_LEN) {
+        judge_entry(entry, options)?;
     }
-    Verdict::Passed
+    Ok(())
 }

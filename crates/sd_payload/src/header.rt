@@ -5,7 +5,7 @@ ghost use Rattle.sd_format.specs.Payload.{header};
 ghost use Rattle.sd_payload.specs.Header.{header_fields};
 
 use big_endian::{be16, be32};
-use refusal::{Refusal, Verdict};
+use refusal::Refusal;
 
 pub const HEADER_LEN: usize = 16;
 
@@ -16,7 +16,7 @@ pub const SD_INTERFACE_VERSION: u8 = 1;
 pub const NOTIFICATION: u8 = 0x02;
 
 // The verdict on the fields of an SD header: 14 to 19.
-#[tactic(auto, using(crate::proofs::HeaderLaws::session_refused))]
+#[tactic(auto, using(crate::proofs::Tests::tests), unfolding(crate::specs::Header::header_fields))]
 fn judge_fields(
     id: u32,
     client: u16,
@@ -24,36 +24,36 @@ fn judge_fields(
     version: u8,
     message_type: u8,
     return_code: u8,
-) -> Verdict
+) -> Result<(), Refusal>
     ensures { verdict_said result ≡ header_fields id client session version message_type return_code }
 {
     if id != SD_MESSAGE_ID {
-        return Verdict::Refused(Refusal::MessageId(id));
+        return Err(Refusal::MessageId(id));
     }
     if client != 0 {
-        return Verdict::Refused(Refusal::ClientId(client));
+        return Err(Refusal::ClientId(client));
     }
     if session == 0 {
-        return Verdict::Refused(Refusal::SessionZero);
+        return Err(Refusal::SessionZero);
     }
     if version != SD_INTERFACE_VERSION {
-        return Verdict::Refused(Refusal::InterfaceVersion(version));
+        return Err(Refusal::InterfaceVersion(version));
     }
     if message_type != NOTIFICATION {
-        return Verdict::Refused(Refusal::MessageType(message_type));
+        return Err(Refusal::MessageType(message_type));
     }
     if return_code != 0 {
-        return Verdict::Refused(Refusal::ReturnCode(return_code));
+        return Err(Refusal::ReturnCode(return_code));
     }
-    Verdict::Passed
+    Ok(())
 }
 
 // The verdict on the SD header in front of a message: 1 with 16, then its fields.
-pub(crate) fn judge_header(message: &[u8]) -> Verdict
+pub(crate) fn judge_header(message: &[u8]) -> Result<(), Refusal>
     ensures { verdict_said result ≡ header message.now }
 {
     if message.len() < HEADER_LEN {
-        return Verdict::Refused(Refusal::UnexpectedEndOfSlice(HEADER_LEN));
+        return Err(Refusal::UnexpectedEndOfSlice(HEADER_LEN));
     }
     judge_fields(
         be32(message[0], message[1], message[2], message[3]),

@@ -10,7 +10,7 @@ mod sizes;
 
 pub use parts::{entries_part, options_part};
 pub use reading::{
-    EXPLICIT_INITIAL_DATA_CONTROL, PayloadAnswer, REBOOT, SdHeaderFlags, SdPayload, UNICAST,
-    read_message, read_payload,
+    EXPLICIT_INITIAL_DATA_CONTROL, REBOOT, SdHeaderFlags, SdPayload, UNICAST, read_message,
+    read_payload,
 };
 pub use sizes::judge_sizes;

@@ -5,32 +5,54 @@ use hub::answers::Answer;
 use hub::entries::viaductle_next_entry;
 use hub::options::{viaductle_index, viaductle_lookup, viaductle_read_option, viaductle_string};
 use hub::payload::{Places, viaductle_parts, viaductle_read, viaductle_read_message};
-use refusal::one;
-use replay::{argument, check, input, recorded, same};
+use refusal::Numbers;
+use replay::{argument, byte, check, input, recorded, same};
+
+// What a record's input is, as its byte 0 says.
+#[derive(Clone, Copy)]
+pub(crate) enum Kind {
+    Payload = 1,
+    Message = 2,
+    Index = 3,
+    Entry = 4,
+    Option = 5,
+    String = 6,
+    Lookup = 7,
+    Run = 8,
+}
+
+impl TryFrom<u8> for Kind {
+    type Error = ();
+
+    fn try_from(code: u8) -> Result<Kind, ()> {
+        match code {
+            1 => Ok(Kind::Payload),
+            2 => Ok(Kind::Message),
+            3 => Ok(Kind::Index),
+            4 => Ok(Kind::Entry),
+            5 => Ok(Kind::Option),
+            6 => Ok(Kind::String),
+            7 => Ok(Kind::Lookup),
+            8 => Ok(Kind::Run),
+            _ => Err(()),
+        }
+    }
+}
 
 // The settings of a record, as the word that C tells them by.
 fn settings(record: &[u8]) -> u32 {
-    replay::byte(record, 1) as u32
+    byte(record, 1) as u32
 }
 
-// Whether an answer is the recorded one.
+// Whether an answer is the recorded one. (`tp_replay` has the same line: crate `replay` knows no answers of C's.)
 fn told(record: &[u8], answer: Answer) -> bool {
-    let values = answer.values;
-    same(recorded(record), answer.number, values)
+    same(recorded(record), answer.number, answer.values)
 }
 
 // The part of some bytes that starts at a place and has so many; none where they do not lie there.
 fn part(s: &[u8], at: u64, len: u64) -> &[u8] {
-    if s.len() as u64 <= at {
-        return &s[0..0];
-    }
-    let from = at as usize;
-    let rest = &s[from..];
-    if (rest.len() as u64) < len {
-        return &s[0..0];
-    }
-    let n = len as usize;
-    &rest[..n]
+    let rest = s.get(at as usize..).unwrap_or(&[]);
+    rest.get(..len as usize).unwrap_or(&[])
 }
 
 // Whether a payload's parts and the table are as recorded.
@@ -44,37 +66,47 @@ fn parts_agree(record: &[u8], payload: &[u8], places: Places, table: &[u16]) -> 
         && check(record, 4) == sum_of_options(options, settings(record))
 }
 
-// A payload that was read, with its parts and the table.
+// A payload that was read, with its parts and the table where it was accepted.
 fn payload_agrees(record: &[u8], payload: &[u8], answer: Answer, table: &[u16]) -> bool {
-    if !told(record, answer) {
-        return false;
-    }
-    if answer.number != 0 {
-        return true;
-    }
-    parts_agree(record, payload, viaductle_parts(payload, answer), table)
+    told(record, answer)
+        && (answer.number != 0
+            || parts_agree(record, payload, viaductle_parts(payload, answer), table))
 }
 
-// The payload of a message: what stands behind its sixteen header bytes.
-fn behind_header(message: &[u8]) -> &[u8] {
-    if message.len() < 16 {
-        return &message[0..0];
-    }
-    &message[16..]
+// A payload.
+fn read_payload_agrees(record: &[u8], table: &mut [u16]) -> bool {
+    let payload = input(record);
+    let answer = viaductle_read(payload, table, settings(record));
+    payload_agrees(record, payload, answer, table)
+}
+
+// A message with SD header; its payload stands behind the sixteen bytes of that.
+fn read_message_agrees(record: &[u8], table: &mut [u16]) -> bool {
+    let message = input(record);
+    let answer = viaductle_read_message(message, table, settings(record));
+    payload_agrees(record, message.get(16..).unwrap_or(&[]), answer, table)
 }
 
 // The index alone.
 fn index_agrees(record: &[u8], table: &mut [u16]) -> bool {
     let options = input(record);
     let answer = viaductle_index(options, table, settings(record));
-    if !told(record, answer) {
-        return false;
-    }
-    if answer.number != 0 {
-        return true;
-    }
-    check(record, 0) == sum_of_table(table)
-        && check(record, 1) == sum_of_options(options, settings(record))
+    told(record, answer)
+        && (answer.number != 0
+            || check(record, 0) == sum_of_table(table)
+                && check(record, 1) == sum_of_options(options, settings(record)))
+}
+
+// One entry, as the cursor reads it.
+fn entry_agrees(record: &[u8]) -> bool {
+    let entry = viaductle_next_entry(input(record), 0);
+    told(record, entry.answer) && check(record, 0) == add_entry(0, entry)
+}
+
+// One option, with its fields.
+fn option_agrees(record: &[u8]) -> bool {
+    let option = viaductle_read_option(input(record), settings(record));
+    told(record, option.answer) && check(record, 0) == sum_of_option(option)
 }
 
 // How many options an options part has that the index accepts with no setting on; none where it does not.
@@ -83,8 +115,7 @@ fn count_of(options: &[u8], table: &mut [u16]) -> usize {
     if answer.number != 0 {
         return 0;
     }
-    let values = answer.values;
-    (values[0] % 0x10000) as usize
+    answer.values[0] as usize
 }
 
 // A lookup.
@@ -95,67 +126,39 @@ fn lookup_agrees(record: &[u8], table: &mut [u16]) -> bool {
     told(record, viaductle_lookup(options, table, count, ordinal))
 }
 
-// A number of one byte.
-fn low_byte(n: u32) -> u8 {
-    (n % 256) as u8
+// An argument of one byte.
+fn low_byte(record: &[u8], place: u8) -> u8 {
+    (argument(record, place) % 256) as u8
 }
 
 // A run.
 fn run_agrees(record: &[u8], table: &mut [u16]) -> bool {
     let options = input(record);
     let count = count_of(options, table);
-    let start = low_byte(argument(record, 0));
-    let said = sum_of_run(options, table, count, start, low_byte(argument(record, 1)));
-    let accepted = one(0, said.options);
-    let values = accepted.values;
-    same(recorded(record), accepted.number, values) && check(record, 0) == said.sum
-}
-
-// One entry, as the cursor reads it.
-fn entry_agrees(record: &[u8]) -> bool {
-    let entry = viaductle_next_entry(input(record), 0);
-    let answer = entry.answer;
-    told(record, answer) && check(record, 0) == add_entry(0, entry)
-}
-
-// One option, with its fields.
-fn option_agrees(record: &[u8]) -> bool {
-    let option = viaductle_read_option(input(record), settings(record));
-    let answer = option.answer;
-    told(record, answer) && check(record, 0) == sum_of_option(option)
-}
-
-// A configuration string.
-fn string_agrees(record: &[u8]) -> bool {
-    told(record, viaductle_string(input(record)))
-}
-
-// A payload.
-fn read_payload_agrees(record: &[u8], table: &mut [u16]) -> bool {
-    let payload = input(record);
-    let answer = viaductle_read(payload, table, settings(record));
-    payload_agrees(record, payload, answer, table)
-}
-
-// A message with SD header.
-fn read_message_agrees(record: &[u8], table: &mut [u16]) -> bool {
-    let message = input(record);
-    let answer = viaductle_read_message(message, table, settings(record));
-    payload_agrees(record, behind_header(message), answer, table)
+    let said = sum_of_run(
+        options,
+        table,
+        count,
+        low_byte(record, 0),
+        low_byte(record, 1),
+    );
+    let accepted = Numbers::new(0, &[said.options]);
+    same(recorded(record), accepted.number, accepted.values) && check(record, 0) == said.sum
 }
 
 // Whether all that is recorded is so.
 pub(crate) fn agrees(record: &[u8], table: &mut [u16]) -> bool {
-    let kind = replay::byte(record, 0);
+    let Ok(kind) = Kind::try_from(byte(record, 0)) else {
+        return false;
+    };
     match kind {
-        1 => read_payload_agrees(record, table),
-        2 => read_message_agrees(record, table),
-        3 => index_agrees(record, table),
-        4 => entry_agrees(record),
-        5 => option_agrees(record),
-        6 => string_agrees(record),
-        7 => lookup_agrees(record, table),
-        8 => run_agrees(record, table),
-        _ => false,
+        Kind::Payload => read_payload_agrees(record, table),
+        Kind::Message => read_message_agrees(record, table),
+        Kind::Index => index_agrees(record, table),
+        Kind::Entry => entry_agrees(record),
+        Kind::Option => option_agrees(record),
+        Kind::String => told(record, viaductle_string(input(record))),
+        Kind::Lookup => lookup_agrees(record, table),
+        Kind::Run => run_agrees(record, table),
     }
 }

@@ -1,10 +1,7 @@
 // The byte at which an option was refused, among its neighbours: a line below the refusal.
-ghost use Rattle.std.specs.Prelude.{◌≤◌, length};
-
-use print::{hexadecimal, named, text};
-use refusal::{Count, Refusal};
-use sd_payload::PayloadAnswer;
-use words::told;
+use print::out;
+use refusal::Refusal;
+use std::fmt;
 
 // Where the options of a payload stand that has no entries.
 const OPTIONS_START: usize = 12;
@@ -14,133 +11,114 @@ const BEFORE: usize = 16;
 
 const BEHIND: usize = 15;
 
-// A place among the options; refusals 7 to 10 and 23 tell one.
-#[derive(Clone, Copy)]
-enum Place {
-    At(usize),
-    Untold,
-}
-
-fn place_in(refusal: Refusal) -> Place {
+// The place among the options that a refusal tells: 7 to 10 and 23 do.
+fn place_in(refusal: Refusal) -> Option<usize> {
     match refusal {
-        Refusal::OptionLength {
-            needed: _,
-            had: _,
-            source: _,
-            place,
-        } => Place::At(place),
-        Refusal::OptionLengthZero { place } => Place::At(place),
-        Refusal::ConfigurationString { error: _, place } => Place::At(place),
-        Refusal::UnknownOption { code: _, place } => Place::At(place),
-        Refusal::WrongProtocol { protocol: _, place } => Place::At(place),
-        _ => Place::Untold,
+        Refusal::OptionLength { place, .. }
+        | Refusal::OptionLengthZero { place }
+        | Refusal::ConfigurationString { place, .. }
+        | Refusal::UnknownOption { place, .. }
+        | Refusal::WrongProtocol { place, .. } => Some(place),
+        _ => None,
     }
 }
 
-fn place_of(answer: PayloadAnswer) -> Place {
-    match answer {
-        PayloadAnswer::Good(_) => Place::Untold,
-        PayloadAnswer::Refused(refusal) => place_in(refusal),
-    }
-}
-
-// Where a payload's options begin; its end where its sizes do not pass, which a refusal with a place rules out.
-fn options_start(payload: &[u8]) -> usize
-    ensures { result ≤ length payload.now }
-{
-    let end = payload.len();
-    let sizes = sd_payload::judge_sizes(payload);
-    let Count::Good(entries_len) = sizes else {
-        return end;
-    };
-    if end < OPTIONS_START {
-        return end;
-    }
-    if end - OPTIONS_START < entries_len {
-        return end;
-    }
-    OPTIONS_START + entries_len
-}
-
-fn hex(rt: &impl Print, b: u8) {
-    hexadecimal(rt, b as u64, 2);
+// A payload's options; none where its sizes do not pass, which a refusal with a place rules out.
+fn options_in(payload: &[u8]) -> Option<&[u8]> {
+    let entries_len = sd_payload::judge_sizes(payload).ok()?;
+    payload.get(OPTIONS_START..)?.get(entries_len..)
 }
 
 // Each byte behind a space.
-fn row(rt: &impl Print, s: &[u8]) {
-    let mut i: usize = 0;
-    while i < s.len() {
-        text(rt, b" ");
-        hex(rt, s[i]);
-        i += 1;
+#[derive(Clone, Copy)]
+struct Row<'a>(&'a [u8]);
+
+impl<'a> fmt::Display for Row<'a> {
+    fn fmt<W: fmt::Write>(&self, f: &mut fmt::Formatter<W>) -> fmt::Result {
+        for b in self.0 {
+            write!(f, " {b:02x}")?;
+        }
+        Ok(())
     }
 }
 
 // The last of the bytes before the one at fault.
-fn before(rt: &impl Print, s: &[u8]) {
-    if s.len() <= BEFORE {
-        row(rt, s);
-        return;
+#[derive(Clone, Copy)]
+struct Before<'a>(&'a [u8]);
+
+impl<'a> fmt::Display for Before<'a> {
+    fn fmt<W: fmt::Write>(&self, f: &mut fmt::Formatter<W>) -> fmt::Result {
+        let (far, near) = self.0.split_at(self.0.len().saturating_sub(BEFORE));
+        if !far.is_empty() {
+            f.write_str(" ..")?;
+        }
+        write!(f, "{}", Row(near))
     }
-    text(rt, b" ..");
-    let from = s.len() - BEFORE;
-    row(rt, &s[from..]);
 }
 
 // The first of the bytes behind it.
-fn behind(rt: &impl Print, s: &[u8]) {
-    if s.len() <= BEHIND {
-        row(rt, s);
-        return;
+#[derive(Clone, Copy)]
+struct Behind<'a>(&'a [u8]);
+
+impl<'a> fmt::Display for Behind<'a> {
+    fn fmt<W: fmt::Write>(&self, f: &mut fmt::Formatter<W>) -> fmt::Result {
+        let (near, far) = self.0.split_at(self.0.len().min(BEHIND));
+        write!(f, "{}", Row(near))?;
+        if !far.is_empty() {
+            f.write_str(" ..")?;
+        }
+        Ok(())
     }
-    row(rt, &s[0..BEHIND]);
-    text(rt, b" ..");
 }
 
-// The byte at fault, which is the first of these, and those behind it; the end where there is none.
-fn marked(rt: &impl Print, s: &[u8]) {
-    if s.len() == 0 {
-        text(rt, b" [end]");
-        return;
-    }
-    text(rt, b" [");
-    hex(rt, s[0]);
-    text(rt, b"]");
-    behind(rt, &s[1..]);
+// A place among the options: the bytes before it and those from it on, and where it is in the payload and in the message, which may be the same.
+#[derive(Clone, Copy)]
+struct Fault<'a> {
+    before: &'a [u8],
+    on: &'a [u8],
+    of_payload: usize,
+    of_message: usize,
 }
 
-// A place among the options, the payload's bytes and, where that is another, the message's.
-fn counted(rt: &impl Print, of_options: usize, of_payload: usize, of_message: usize) {
-    told(
-        rt,
-        b"  byte %0d of the options, byte %1d of the payload",
-        [of_options as u64, of_payload as u64, 0, 0, 0],
-    );
-    if of_message != of_payload {
-        named(rt, b", byte ", of_message);
-        text(rt, b" of the message");
+impl<'a> fmt::Display for Fault<'a> {
+    fn fmt<W: fmt::Write>(&self, f: &mut fmt::Formatter<W>) -> fmt::Result {
+        let (of_options, of_payload, of_message) = (
+            self.before.len(),
+            self.of_payload,
+            self.of_message,
+        );
+        write!(
+            f,
+            "  byte {of_options} of the options, byte {of_payload} of the payload"
+        )?;
+        if of_message != of_payload {
+            write!(f, ", byte {of_message} of the message")?;
+        }
+        write!(f, ":{}", Before(self.before))?;
+        match self.on.split_first() {
+            Some((first, behind)) => write!(f, " [{first:02x}]{}", Behind(behind)),
+            None => write!(f, " [end]"),
+        }
     }
-    text(rt, b":");
 }
 
-// The line, of a payload that stands in these bytes behind `ahead` others, a message's header or none. There is no line where the answer tells no
-// place, or one that the options do not have.
-pub(crate) fn shown(rt: &impl Print, answer: PayloadAnswer, bytes: &[u8], ahead: usize) {
-    let place = place_of(answer);
-    let Place::At(at) = place else {
-        return;
-    };
-    if bytes.len() < ahead {
-        return;
+// What a refusal tells of a payload that stands in these bytes behind `ahead` others, a message's header or none: nothing where it tells no place, or
+// one that the options do not have.
+fn fault_in(refusal: Refusal, bytes: &[u8], ahead: usize) -> Option<Fault<'_>> {
+    let place = place_in(refusal)?;
+    let payload = bytes.get(ahead..)?;
+    let (before, on) = options_in(payload)?.split_at_checked(place)?;
+    Some(Fault {
+        before,
+        on,
+        of_payload: payload.len().saturating_sub(on.len()),
+        of_message: bytes.len().saturating_sub(on.len()),
+    })
+}
+
+// The line, where there is one.
+pub(crate) fn shown(rt: &impl Print, refusal: Refusal, bytes: &[u8], ahead: usize) {
+    if let Some(fault) = fault_in(refusal, bytes, ahead) {
+        out(rt, format_args!("{fault}\n"));
     }
-    let payload = &bytes[ahead..];
-    let start = options_start(payload);
-    let options = &payload[start..];
-    if options.len() < at {
-        return;
-    }
-    counted(rt, at, start + at, ahead + (start + at));
-    before(rt, &options[0..at]);
-    marked(rt, &options[at..]);
-    text(rt, b"\n");
 }

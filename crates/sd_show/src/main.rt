@@ -4,89 +4,73 @@
 #![tactic(auto)]
 
 use intake::fill;
-use print::text;
-use sd_option::Settings;
+use print::out;
+use sd_option::{PLAIN, Settings};
 use std::env::Env;
 
 mod fault; // fault.rt: the byte at which an option was refused, among its neighbours
 mod header; // header.rt: a message's header
 mod payload; // payload.rt: a whole payload or message
 
+// More bytes than a datagram can have.
+const ROOM: usize = 65536;
+
 // What is asked by the words that the program is started with.
 #[derive(Clone, Copy)]
 struct Asked {
     message: bool,
-    discard: bool,
-    strict: bool,
-    unknown: bool,
+    settings: Settings,
 }
 
-// What is asked with a word more.
-fn with_word(mut asked: Asked, word: &[u8]) -> Asked {
-    if word == b"--message".as_slice() {
-        asked.message = true;
-    } else if word == b"--discard".as_slice() {
-        asked.discard = true;
-    } else if word == b"--strict".as_slice() {
-        asked.strict = true;
-    } else {
-        asked.unknown = true;
+// What is asked with a word more; nothing where the word is none of the three.
+fn with_word(mut asked: Asked, word: &[u8]) -> Option<Asked> {
+    match word {
+        b"--message" => asked.message = true,
+        b"--discard" => asked.settings.discard_unknown_option = true,
+        b"--strict" => asked.settings.strict = true,
+        _ => return None,
     }
-    asked
+    Some(asked)
 }
 
 // What is asked by all words: those behind the program's own name. One that is longer than the room for it is none of the three.
-fn by_arguments(rt: &impl Env) -> Asked {
+fn by_arguments(rt: &impl Env) -> Option<Asked> {
     let mut asked = Asked {
         message: false,
-        discard: false,
-        strict: false,
-        unknown: false,
+        settings: PLAIN,
     };
-    let mut word = [0u8; 4096];
+    let mut word = [0; 4096];
     for place in 1..usize::MAX {
         let Some(n) = intake::word(rt, place, &mut word) else {
-            return asked;
+            break;
         };
-        asked = with_word(asked, &word[..n]);
+        asked = with_word(asked, &word[..n])?;
     }
-    asked
-}
-
-fn show(rt: &impl Print, asked: Asked, bytes: &[u8]) {
-    let settings = Settings {
-        discard_unknown_option: asked.discard,
-        strict: asked.strict,
-    };
-    if asked.message {
-        payload::show_message(rt, settings, bytes);
-    } else {
-        payload::show(rt, settings, bytes);
-    }
+    Some(asked)
 }
 
 // What comes on standard input: fewer bytes than there is room for, so that none is left out.
 fn show_input(rt: &(impl Print + Input), asked: Asked) {
-    let mut bytes = [0u8; 65536];
+    let mut bytes = [0; ROOM];
     let n = fill(&mut rt.reader(), &mut bytes);
-    if 65536 <= n {
-        text(
+    if n == ROOM {
+        out(
             rt,
-            b"not shown: more than 65535 bytes, and a message has 1416 at most\n",
+            "not shown: more than 65535 bytes, and a message has 1416 at most\n",
         );
-        return;
+    } else if asked.message {
+        payload::show_message(rt, asked.settings, &bytes[..n]);
+    } else {
+        payload::show(rt, asked.settings, &bytes[..n]);
     }
-    show(rt, asked, &bytes[..n]);
 }
 
 fn main(rt: HostRuntime) {
-    let asked = by_arguments(&rt);
-    if asked.unknown {
-        text(
+    match by_arguments(&rt) {
+        Some(asked) => show_input(&rt, asked),
+        None => out(
             &rt,
-            b"not shown: the words are --message, --discard and --strict\n",
-        );
-        return;
+            "not shown: the words are --message, --discard and --strict\n",
+        ),
     }
-    show_input(&rt, asked);
 }

@@ -1,4 +1,7 @@
 -- The calls over lent words, from what is done in place and from what the calls by value promise. Assumes nothing.
+use Rattle.std.specs.Array.{IsFirstChunk}
+use Rattle.refusal.specs.declared.answers.Step.{Step}
+use Rattle.std.specs.Prelude.{Ok, Err, Option, None, ℕ}
 use Prim.Native.Nat.{ℕ, ◌≤◌}
 use mathlib.Core.Path.{◌≡◌, sym, ap, ap₂, ◌∙◌}
 use mathlib.Core.Bool.{Bool, true, false, cond}
@@ -12,19 +15,15 @@ use Rattle.numbers.proofs.AnswerLaws.{when_hit, when_pass}
 use Rattle.numbers.proofs.TestLaws.{and_inv}
 use Rattle.refusal.specs.declared.Refusal.{Refusal}
 use Rattle.refusal.specs.declared.Refusal.TheVariants.{MalformedState}
-use Rattle.refusal.specs.declared.answers.Verdict.TheVariants as verdict
 use Rattle.refusal.specs.Said.{verdict_said}
 use Rattle.tp_machine.specs.declared.TpRange.{TpRange}
-use Rattle.tp_machine.specs.declared.TpEnd.{TpEnd}
-use Rattle.tp_machine.specs.declared.TpEnd.TheVariants.{Unknown}
-use Rattle.tp_machine.specs.Machine.{most, bad_range, Out, step, clear}
+use Rattle.tp_machine.specs.Machine.{most, bad_range, Out, judged, taken, step, clear}
 use Rattle.tp_machine.specs.Taking.{complete, ready}
 use Rattle.tp_machine.proofs.Steps.{every_step}
 use Rattle.tp_range.specs.Joining.{none}
 use Rattle.tp_rules.specs.Taking.{one_whole, one_ready}
 use Rattle.tp_rules.proofs.TakingLaws.{complete_one, ready_one}
 use Rattle.tp_stream.specs.declared.TpStream.{TpStream}
-use Rattle.tp_stream.specs.declared.TpStep.{TpStep}
 use Rattle.tp_stream.specs.Stream.{view, stored}
 use Rattle.tp_stream.specs.Promises.{seen, Ran}
 use Rattle.tp_stream.proofs.StreamLaws.{cleared}
@@ -36,8 +35,10 @@ use Rattle.tp_lent.specs.declared.planning.Plan.{Plan}
 use Rattle.tp_lent.specs.Lent.{held, unready, in_order, Planned, CarriedOut, kept, Joins, Cleared}
 use Rattle.tp_lent.proofs.PlaceLaws.{ranges_at, spread_self, spread_behind}
 use Rattle.tp_lent.proofs.RisingLaws.{not-true}
-use Rattle.tp_lent.proofs.ReadyLaws.{enough, few, end_is, ranges_are, not_malformed}
+use Rattle.tp_lent.proofs.ReadyLaws.{few, end_is, ranges_are, not_malformed}
 use Rattle.tp_lent.proofs.PlanLaws.{accepts}
+use Rattle.tp_words.proofs.FirstLaws.{first_word, first_unfit, first_stream, first_put}
+use Rattle.tp_lent.proofs.FrontLaws.{first_front}
 
 -- ---- one segment
 module _ (ws seg buf : List ℕ) where
@@ -45,32 +46,37 @@ module _ (ws seg buf : List ℕ) where
   out = step (state_of ws) seg buf
 
   -- by value: what was seen is what the machine left of the words' state
-  module _ (s : TpStream) (is : s ≡ stream_of ws) (r : TpStep) (buf' : List ℕ) (ran : Ran s seg buf r buf') (ws' : List ℕ) where
+  module _ (s : TpStream) (is : s ≡ stream_of ws) (r : (Step (Unit {0}) TpStream)) (buf' : List ℕ) (ran : Ran s seg buf r buf') (ws' : List ℕ) where
     steps : seen r buf' ≡ out
     steps = ran.steps ∙ ap (λ (t : TpStream). step (view t) seg buf) is
 
     joins : ws' ≡ kept ws out.answer out.state → Joins ws seg buf r.answer ws' buf'
     joins w = record { answers = ap (λ (o : Out). o.answer) steps; words = w; buffer = ap (λ (o : Out). o.buffer) steps }
 
-    pub joined_by_value : r.answer ≡ verdict.Passed → ws' ≡ put ws r.stream → Joins ws seg buf r.answer ws' buf'
+    pub joined_by_value : r.answer ≡ (Ok tt) → ws' ≡ put ws r.after → Joins ws seg buf r.answer ws' buf'
     joined_by_value e w =
         joins (
         w
-        ∙ ap (put ws) (ran.places ∙ ap (λ (t : TpStream). stored t (view r.stream)) is)
+        ∙ ap (put ws) (ran.places ∙ ap (λ (t : TpStream). stored t (view r.after)) is)
         ∙ ap₂ {C = List ℕ} (kept ws) (ap verdict_said (sym e) ∙ ap (λ (o : Out). o.answer) steps) (ap (λ (o : Out). o.state) steps)
         )
 
-    pub refused_by_value : (q : Refusal) → r.answer ≡ verdict.Refused q → ws' ≡ ws → Joins ws seg buf r.answer ws' buf'
+    pub refused_by_value : (q : Refusal) → r.answer ≡ Err q → ws' ≡ ws → Joins ws seg buf r.answer ws' buf'
     refused_by_value q e w = joins (w ∙ ap (λ (v : paper.Verdict). kept ws v out.state) (ap verdict_said (sym e) ∙ ap (λ (o : Out). o.answer) steps))
 
-  -- in place: the machine accepts it
-  pub joined_in_place : (plan : Plan) → Planned ws seg (length buf) plan → (ws' buf' : List ℕ) → CarriedOut ws seg buf ws' buf' → Joins ws seg buf verdict.Passed ws' buf'
-  joined_in_place plan is ws' buf' done =
+  -- in place, in the first words: the machine accepts it
+  pub joined_in_place : (f : List ℕ) → IsFirstChunk ws f size → (plan : Plan) → Planned f seg (length buf) plan → (f' buf' : List ℕ) → CarriedOut f seg buf f' buf' → Joins ws seg buf (Ok tt) (f' ++ drop size ws) buf'
+  joined_in_place f first plan is f' buf' done =
       let every = every_step (state_of ws) seg buf in
-      let passes : out.answer ≡ pass = every.answer ∙ accepts ws seg buf plan is in
+      let same : stream_of f ≡ stream_of ws = first_stream ws f first in
+      let passes : out.answer ≡ pass = every.answer ∙ ap (λ (s : TpStream). judged (view s) seg (length buf)) (sym same) ∙ accepts f seg buf plan is in
       record {
         answers = sym passes;
-        words = done.words ∙ sym (ap₂ {C = List ℕ} (kept ws) passes (every.accepts passes).0);
+        words =
+            ap (λ (l : List ℕ). l ++ drop size ws) done.words
+            ∙ first_put ws f first (stored (stream_of f) (taken (state_of f) seg))
+            ∙ ap (λ (s : TpStream). put ws (stored s (taken (view s) seg))) same
+            ∙ sym (ap₂ {C = List ℕ} (kept ws) passes (every.accepts passes).0);
         buffer = done.buffer ∙ sym (every.accepts passes).1;
       }
 
@@ -79,11 +85,8 @@ module _ (ws : List ℕ) (is : in_order ws ≡ true) where
   pub both : (unready ws ≡ false) × (rising (bad_range (state_of ws)) 0 (held ws) ≡ true)
   both = let a = and_inv _ (rising (bad_range (state_of ws)) 0 (held ws)) is in (not-true (unready ws) a.0, a.1)
 
-  pub wide : size ≤ length ws
-  wide = enough ws both.0
-
   -- what is asked of the words' own end, count and first range is asked of their state
-  module _ (e : TpEnd) (r : TpRange) (end : e ≡ end_of (get_or ws 2 0) (get_or ws 3 0)) (first : r ≡ range_at ws 0) where
+  module _ (e : (Option ℕ)) (n : ℕ) (r : TpRange) (end : e ≡ end_of (get_or ws 2 0) (get_or ws 3 0)) (many : n ≡ get_or ws 1 0) (first : r ≡ range_at ws 0) where
     same_end : e ≡ (state_of ws).end
     same_end = end ∙ sym (end_is ws both.0)
 
@@ -93,37 +96,38 @@ module _ (ws : List ℕ) (is : in_order ws ≡ true) where
     fewer : get_or ws 1 0 ≤ length (ranges_in ws most)
     fewer = omega (arith, few ws both.0, in_length ws most)
 
-    pub completes : one_whole e (get_or ws 1 0) r ≡ complete (state_of ws)
+    pub completes : one_whole e n r ≡ complete (state_of ws)
     completes =
-        (λ i. one_whole (same_end i) (get_or ws 1 0) (same_first i))
+        (λ i. one_whole (same_end i) (many i) (same_first i))
         ∙ sym (complete_one (state_of ws) (get_or ws 1 0) (ranges_in ws most) (not_malformed ws both.0 both.1) (ranges_are ws both.0) fewer (omega (arith, in_length ws most)))
 
-    pub readies : (room : ℕ) → one_ready e (get_or ws 1 0) r room ≡ ready (state_of ws) room
+    pub readies : (room : ℕ) → one_ready e n r room ≡ ready (state_of ws) room
     readies room =
-        (λ i. one_ready (same_end i) (get_or ws 1 0) (same_first i) room)
+        (λ i. one_ready (same_end i) (many i) (same_first i) room)
         ∙ sym (ready_one (state_of ws) (get_or ws 1 0) (ranges_in ws most) (not_malformed ws both.0 both.1) (ranges_are ws both.0) fewer (omega (arith, in_length ws most)) room)
 
 -- ---- clearing
 module _ (ws : List ℕ) where
-  pub cleared_not : unfit ws ≡ true → Cleared ws (verdict.Refused MalformedState) ws
-  cleared_not e =
+  pub cleared_not : unfit ws ≡ true → (ws' : List ℕ) → ws' ≡ ws → Cleared ws (Err MalformedState) ws'
+  cleared_not e ws' w =
       record {
         answers = sym (when_hit malformed_state (unfit ws) pass e);
-        words = sym (ap (λ (b : Bool). cond b ws (put ws (stored (stream_of ws) (clear (state_of ws))))) e);
+        words = w ∙ sym (ap (λ (b : Bool). cond b ws (put ws (stored (stream_of ws) (clear (state_of ws))))) e);
       }
 
-  pub cleared_in_place : unfit ws ≡ false → (ws' : List ℕ) → ws' ≡ get_or ws 0 0 ∷ 0 ∷ 0 ∷ 0 ∷ 0 ∷ drop 5 ws → Cleared ws verdict.Passed ws'
+  pub cleared_in_place : (f : List ℕ) → IsFirstChunk ws f size → unfit f ≡ false → (f' : List ℕ) → f' ≡ get_or f 0 0 ∷ 0 ∷ 0 ∷ 0 ∷ 0 ∷ drop 5 f → Cleared ws (Ok tt) (f' ++ drop size ws)
   unfolding words_of held_in
-  cleared_in_place e ws' w =
-      let room : size ≤ length ws = fit ws e in
-      let s : TpStream = record { limit = get_or ws 0 0; ranges = ranges_in ws most; count = 0; end = Unknown; accepted = 0 } in
+  cleared_in_place f first e f' w =
+      let fits : unfit ws ≡ false = sym (first_unfit ws f first) ∙ e in
+      let room : size ≤ length ws = fit ws fits in
+      let s : TpStream = record { limit = get_or ws 0 0; ranges = ranges_in ws most; count = 0; end = None; accepted = 0 } in
       let behind : drop 5 ws ≡ flat (ranges_in ws most) ++ drop size ws = ap (drop 5) (spread_self ws room) ∙ spread_behind ws room (ranges_in ws most) in
       record {
-        answers = sym (when_pass malformed_state (unfit ws) pass e);
+        answers = sym (when_pass malformed_state (unfit ws) pass fits);
         words =
-            w
-            ∙ ap (λ (l : List ℕ). get_or ws 0 0 ∷ 0 ∷ 0 ∷ 0 ∷ 0 ∷ l) behind
+            ap (λ (l : List ℕ). l ++ drop size ws) w
+            ∙ ap₂ {C = List ℕ} (λ (x : ℕ) (l : List ℕ). x ∷ 0 ∷ 0 ∷ 0 ∷ 0 ∷ l) (first_word ws f first 0 (omega arith)) (first_front ws f first ∙ behind)
             ∙ put_all ws s room (omega arith)
-            ∙ ap (put ws) (cleared (held_in ws) ∙ ap (λ (t : TpStream). stored t (clear (view t))) (told ws e))
-            ∙ sym (ap (λ (b : Bool). cond b ws (put ws (stored (stream_of ws) (clear (state_of ws))))) e);
+            ∙ ap (put ws) (cleared (held_in ws) ∙ ap (λ (t : TpStream). stored t (clear (view t))) (told ws fits))
+            ∙ sym (ap (λ (b : Bool). cond b ws (put ws (stored (stream_of ws) (clear (state_of ws))))) fits);
       }

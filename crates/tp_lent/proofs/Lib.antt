@@ -1,5 +1,6 @@
 pub mod PlaceLaws
 pub mod RisingLaws
+pub mod FrontLaws
 pub mod ReadyLaws
 pub mod PlanLaws
 pub mod CallLaws

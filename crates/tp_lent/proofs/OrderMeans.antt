@@ -1,4 +1,5 @@
 -- What it means that words are in order, and that every run's are. Assumes nothing.
+use Rattle.std.specs.Prelude.{Option, Some, None, ℕ}
 use Prim.Native.Nat.{ℕ, ◌+◌, ◌≤◌}
 use mathlib.Core.Path.{◌≡◌, refl, sym, ap, subst, ◌∙◌}
 use mathlib.Core.Bool.{Bool, true, false, cond, false≢true}
@@ -12,8 +13,6 @@ use Rattle.numbers.specs.Answers.{All}
 use Rattle.numbers.proofs.AnswerLaws.{all_map}
 use Rattle.numbers.proofs.TestLaws.{or_inv, neither}
 use Rattle.tp_machine.specs.declared.TpRange.{TpRange}
-use Rattle.tp_machine.specs.declared.TpEnd.{TpEnd}
-use Rattle.tp_machine.specs.declared.TpEnd.TheVariants.{Unknown, Known}
 use Rattle.tp_machine.specs.Ranges.{any}
 use Rattle.tp_machine.specs.Machine.{most, highest, State, bad_range, end_past, bad_state}
 use Rattle.tp_machine.specs.Taking.{complete}
@@ -52,7 +51,7 @@ rises p low (r ∷ rs) b l o =
 -- an end that lies within the limit
 reaches : (known end limit : ℕ) (b : Bool) → eqb known 0 ≡ b → Within (end_of known end) limit → cond (eqb known 0) limit end ≤ limit
 reaches known end limit true e w = subst (λ (t : Bool). cond t limit end ≤ limit) (sym e) (le_refl limit)
-reaches known end limit false e w = subst (λ (t : Bool). cond t limit end ≤ limit) (sym e) (subst (λ (t : Bool). Within (cond t Unknown (Known end)) limit) e w)
+reaches known end limit false e w = subst (λ (t : Bool). cond t limit end ≤ limit) (sym e) (subst (λ (t : Bool). Within (cond t None (Some end)) limit) e w)
 
 module _ (ws : List ℕ) where
   there : in_order ws ≡ true → (unfit ws ≡ false) × Good (state_of ws) × InOrder (state_of ws).ranges
@@ -62,7 +61,7 @@ module _ (ws : List ℕ) where
     ready : unready ws ≡ false
     ready =
         let many : length (state_of ws).ranges ≡ get_or ws 1 0 = ap length (state_ranges ws f) ∙ held_length (get_or ws 1 0) (ranges_in ws most) in
-        let within : Within (end_of (get_or ws 2 0) (get_or ws 3 0)) (get_or ws 0 0) = subst (λ (e : TpEnd). Within e (get_or ws 0 0)) (state_end ws f) (subst (Within (state_of ws).end) (state_limit ws f) g.end_within) in
+        let within : Within (end_of (get_or ws 2 0) (get_or ws 3 0)) (get_or ws 0 0) = subst (λ (e : (Option ℕ)). Within e (get_or ws 0 0)) (state_end ws f) (subst (Within (state_of ws).end) (state_limit ws f) g.end_within) in
         neither _ _ f (neither _ _ (le-ltb most (get_or ws 1 0) (omega (arith, many, g.few)))
         (neither _ _ (le-ltb highest (get_or ws 0 0) (omega (arith, state_limit ws f, g.low)))
         (le-ltb (get_or ws 0 0) (top_of ws) (reaches (get_or ws 2 0) (get_or ws 3 0) (get_or ws 0 0) (eqb (get_or ws 2 0) 0) refl within))))

@@ -10,7 +10,7 @@ use native.Mathlib.Omega.{arith}
 use borrow.Author.Tests.{ltb-true, ltb-false}
 use lib.Dec.{ltb}
 use lib.ListN.{length, take, drop, get_or, set, length-append, length-drop, take-append-drop, get_or-append}
-use lib.Seq.{paste, get_or-drop, get_or-take, take-suc-set, take_at, drop_at, get_or_at, set-get_or, take-suc, length-take-le, length-slice, drop-append-le, drop-drop, sets-eq}
+use lib.Seq.{paste, get_or-take, take_at, drop_at, get_or_at, set-get_or, take-suc, length-take-le, length-slice, drop-append-le, drop-drop, sets-eq}
 use Rattle.tp_machine.specs.declared.TpRange.{TpRange}
 use Rattle.tp_machine.specs.Machine.{most}
 use Rattle.tp_machine.specs.Segments.{pasted}
@@ -21,12 +21,6 @@ use Rattle.tp_words.proofs.WordLaws.{in_length, flat_length, flat_append, laid, 
 use Rattle.tp_lent.specs.Lent.{spread, put_range}
 
 -- ---- words copied by way of an array
-pub part_more : (part ws : List ℕ) (from i : ℕ) → i < length part → from + i < length ws → take i part ≡ take i (drop from ws) → take (i + 1) (set part i (get_or ws (from + i) 0)) ≡ take (i + 1) (drop from ws)
-part_more part ws from i f g e =
-    ap (λ (n : ℕ). take n (set part i (get_or ws (from + i) 0))) (add-one i) ∙ take-suc-set part i (get_or ws (from + i) 0) f
-    ∙ ap₂ {C = List ℕ} (λ (l : List ℕ) (x : ℕ). l ++ (x ∷ [])) e (sym (get_or-drop from ws i 0))
-    ∙ sym (ap (λ (n : ℕ). take n (drop from ws)) (add-one i) ∙ take-suc (drop from ws) i 0 (rw length-drop (omega arith)))
-
 pub paste_part : (ws part : List ℕ) (to from n : ℕ) → from + n ≤ length ws → take n part ≡ take n (drop from ws) → paste ws to part n ≡ pasted ws to (take n (drop from ws))
 unfolding pasted
 paste_part ws part to from n h e =

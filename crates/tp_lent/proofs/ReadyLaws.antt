@@ -1,4 +1,5 @@
 -- Words that are not unready, and what follows where their ranges stand in order: the state is not malformed. Assumes nothing.
+use Rattle.std.specs.Prelude.{Some, None}
 use Prim.Native.Nat.{ℕ, ◌-◌, ◌≤◌, ◌<◌}
 use mathlib.Core.Path.{◌≡◌, refl, sym, ap, subst, ◌∙◌}
 use mathlib.Core.Bool.{Bool, true, false, cond}
@@ -10,8 +11,7 @@ use lib.ListN.{length, take, get_or}
 use lib.Seq.{length-take-le, get_or-take}
 use Rattle.numbers.proofs.TestLaws.{or_inv}
 use Rattle.tp_machine.specs.declared.TpRange.{TpRange}
-use Rattle.tp_machine.specs.declared.TpEnd.TheVariants.{Unknown, Known}
-use Rattle.tp_machine.specs.Ranges.{any, greatest_end}
+use Rattle.tp_machine.specs.Ranges.{any, some_touch, greatest_end}
 use Rattle.tp_machine.specs.Machine.{most, highest, State, bad_range, end_past, bad_state}
 use Rattle.tp_machine.specs.Meaning.{Good}
 use Rattle.tp_machine.proofs.Tests as tests
@@ -40,10 +40,10 @@ module _ (known end limit : ℕ) where
   not_past false e h = rw e (le-ltb limit end (subst (λ (t : Bool). cond t limit end ≤ limit) e h))
 
   reach_top : (b : Bool) → eqb known 0 ≡ b → top ≤ limit → (p : State) → p.limit ≡ limit → p.end ≡ end_of known end → Reach p top
-  reach_top true e h p l q = subst (Reach p) (sym (ap (λ (t : Bool). cond t limit end) e)) (reach_limit p limit l (q ∙ ap (λ (t : Bool). cond t Unknown (Known end)) e))
+  reach_top true e h p l q = subst (Reach p) (sym (ap (λ (t : Bool). cond t limit end) e)) (reach_limit p limit l (q ∙ ap (λ (t : Bool). cond t None (Some end)) e))
   reach_top false e h p l q =
       subst (Reach p) (sym (ap (λ (t : Bool). cond t limit end) e))
-      (reach_end p limit (end_of known end) end (not_past false e h) l q (ap (λ (t : Bool). cond t Unknown (Known end)) e))
+      (reach_end p limit (end_of known end) end (not_past false e h) l q (ap (λ (t : Bool). cond t None (Some end)) e))
 
 -- ---- words that are fit: the state that they hold, by its fields
 module _ (ws : List ℕ) (fit-so : unfit ws ≡ false) where
@@ -117,11 +117,11 @@ module _ (ws : List ℕ) (ready : unready ws ≡ false) where
     pub not_malformed : bad_state p ≡ false
     unfolding held_in
     not_malformed =
-        let q : State = view (held_in ws) in
-        let same : q ≡ p = ap view (told ws fits) in
+        let same : view (held_in ws) ≡ p = ap view (told ws fits) in
+        let rises : rising (bad_range p) 0 p.ranges ≡ true = ap (rising (bad_range p) 0) ranges_are ∙ order in
         ap bad_state (sym same)
-        ∙ sym (two_touch (held_in ws) few low (not_past known (get_or ws 3 0) limit (eqb known 0) refl reaches) (in_length ws most) (ap (λ (x : State). any (bad_range x) (held ws)) same ∙ none_bad p 0 (held ws) order))
-        ∙ none_touch p 0 (held ws) order
+        ∙ sym (two_touch (held_in ws) few low (not_past known (get_or ws 3 0) limit (eqb known 0) refl reaches) (ap (λ (x : State). any (bad_range x) x.ranges) same ∙ none_bad p 0 p.ranges rises))
+        ∙ ap (λ (x : State). some_touch x.ranges) same ∙ none_touch p 0 p.ranges rises
 
     pub good : Good p
     good = (tests.good_means p).0 not_malformed

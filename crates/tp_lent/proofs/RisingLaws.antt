@@ -1,4 +1,5 @@
 -- Laws of ranges that stand in order: one more of them, and what follows where all are looked at. Assumes nothing.
+use Rattle.std.specs.Prelude.{None}
 use Prim.Native.Nat.{ℕ, suc, ◌+◌, ◌≤◌, ◌<◌}
 use mathlib.Core.Path.{◌≡◌, refl, sym, ap, ◌∙◌}
 use mathlib.Core.Bool.{Bool, true, false, not, cond, false≢true}
@@ -15,7 +16,6 @@ use Rattle.numbers.proofs.TestLaws.{or_inv}
 use Rattle.tp_machine.specs.declared.TpRange.{TpRange}
 use Rattle.tp_machine.specs.Lists.{Pairwise, counted}
 use Rattle.tp_machine.specs.Ranges.{any, some_touch, greatest_end}
-use Rattle.tp_machine.specs.declared.TpEnd.TheVariants.{Unknown}
 use Rattle.tp_machine.specs.Machine.{State, end_before, never_given, bad_range}
 use Rattle.tp_machine.specs.Meaning.{Apart, Before, InOrder}
 use Rattle.tp_machine.proofs.Lists.{all_any}
@@ -39,7 +39,7 @@ not_bad p r e =
 
 -- ---- a range that may reach as far as it does: it is bad in any state if it is, and not where that state's ranges may reach so far
 abbrev free : (r : TpRange) (accepted : ℕ) → State
-free r accepted = record { limit = r.end; ranges = []; end = Unknown; count = accepted }
+free r accepted = record { limit = r.end; ranges = []; end = None; count = accepted }
 
 module _ (r : TpRange) (accepted : ℕ) (b : Bool) (told : (q : State) → Reach q r.end → q.count ≡ accepted → b ≡ bad_range q r) where
   alone : b ≡ bad_range (free r accepted) r

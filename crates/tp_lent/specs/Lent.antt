@@ -1,13 +1,13 @@
 -- What is promised of the calls over lent words, which words are in order, and what stands between the parts of the code. Assumes nothing: these are definitions.
-use Rattle.std.specs.Prelude.{ℕ, ◌+◌, ◌*◌, ◌-◌, ◌≤◌, ◌<◌, min, max, ◌≡◌, Bool, true, false, ◌&&◌, ◌||◌, not, cond, List, ◌++◌, ◌⊎◌, ◌↔◌, length, take, drop, get_or, set, ltb, eqb}
+use Rattle.std.specs.Prelude.{ℕ, ◌+◌, ◌*◌, ◌-◌, ◌≤◌, ◌<◌, min, max, ◌≡◌, Bool, true, false, ◌&&◌, ◌||◌, not, cond, Result, List, ◌++◌, ◌⊎◌, ◌↔◌, length, take, drop, get_or, set, ltb, eqb}
 use Rattle.numbers.specs.Refusals.{malformed_state}
 use Rattle.numbers.specs.Answers.{accepted, refused, Verdict, pass, refuse◌when◌else◌}
-use Rattle.refusal.specs.declared.answers.Verdict as code
+use Rattle.refusal.specs.declared.Refusal.{Refusal}
 use Rattle.refusal.specs.Said.{verdict_said}
 use Rattle.tp_machine.specs.declared.TpRange.{TpRange}
 use Rattle.tp_machine.specs.Lists.{counted}
 use Rattle.tp_machine.specs.Ranges.{ends_before, begins_by}
-use Rattle.tp_machine.specs.Segments.{offset, more, end_of as end_of_segment, written}
+use Rattle.tp_machine.specs.Segments.{more, written}
 use Rattle.tp_machine.specs.Machine.{most, highest, last_number, State, bad_range, taken, step, clear}
 use Rattle.tp_machine.specs.Meaning.{range_of, InOrder, Good}
 use Rattle.tp_machine.specs.Runs.{Reached}
@@ -28,13 +28,13 @@ kept ws (accepted u) p = put ws (stored (stream_of ws) p)
 kept ws (refused r) p = ws
 
 -- one segment: answer, words and buffer are the machine's
-pub record Joins (ws seg buf : List ℕ) (v : code.Verdict) (ws' buf' : List ℕ) : Type 0 where
+pub record Joins (ws seg buf : List ℕ) (v : Result (Unit {0}) Refusal) (ws' buf' : List ℕ) : Type 0 where
   pub answers : verdict_said v ≡ (step (state_of ws) seg buf).answer
   pub words : ws' ≡ kept ws (step (state_of ws) seg buf).answer (step (state_of ws) seg buf).state
   pub buffer : buf' ≡ (step (state_of ws) seg buf).buffer
 
 -- clearing: 38 where the words are unfit, and they are left alone
-pub record Cleared (ws : List ℕ) (v : code.Verdict) (ws' : List ℕ) : Type 0 where
+pub record Cleared (ws : List ℕ) (v : Result (Unit {0}) Refusal) (ws' : List ℕ) : Type 0 where
   pub answers : verdict_said v ≡ (refuse malformed_state when unfit ws else pass)
   pub words : ws' ≡ cond (unfit ws) ws (put ws (stored (stream_of ws) (clear (state_of ws))))
 
@@ -80,28 +80,22 @@ spanned ws before behind n =
 abbrev pub last_end : List ℕ → ℕ → ℕ
 last_end ws n = cond (eqb n 0) 0 (range_at ws (n - 1)).end
 
--- what one pass tells of ranges that stand in order: how many end before `start`, and how many begin at `end` or before
-pub record Surveys (p : State) (rs : List TpRange) (start end : ℕ) (r : Found) : Type 0 where
-  pub fine : r.fine ≡ rising (bad_range p) 0 rs
-  pub before : r.fine ≡ true → r.before ≡ counted (ends_before start) rs
-  pub behind : r.fine ≡ true → r.behind ≡ counted (begins_by end) rs
+-- what one pass tells of words whose ranges stand in order: how many end before a new one begins, and how many begin where it ends or before
+pub record Surveyed (ws : List ℕ) (new : TpRange) (f : Found) : Type 0 where
+  pub order : rising (bad_range (state_of ws)) 0 (held ws) ≡ true
+  pub before : f.before ≡ counted (ends_before new.start) (held ws)
+  pub behind : f.behind ≡ counted (begins_by new.end) (held ws)
 
--- the ranges are in order, and one of them is joined, or there is a place for one more
-pub record RoomLeft (f : Found) (count : ℕ) : Type 0 where
-  pub fine : f.fine ≡ true
-  pub room : (f.before < f.behind) ⊎ (count < most)
-
--- a segment that passes all tests: its range, and where that belongs among those that are held
+-- a segment that passes all tests: its range, where that belongs among those that are held, and that one of them is joined, or there is a place for
+-- one more
 pub record Planned (ws seg : List ℕ) (room : ℕ) (r : Plan) : Type 0 where
   pub ready : unready ws ≡ false
-  pub order : rising (bad_range (state_of ws)) 0 (held ws) ≡ true
   pub passed : Passed (state_of ws) seg room (header_of seg)
   pub number_left : get_or ws 4 0 < last_number
   pub new : r.new ≡ range_of (get_or ws 4 0 + 1) seg
   pub more_follows : r.more ≡ more seg
-  pub before : r.before ≡ counted (ends_before (offset seg)) (held ws)
-  pub behind : r.behind ≡ counted (begins_by (end_of_segment seg)) (held ws)
-  pub room_left : (r.before < r.behind) ⊎ (get_or ws 1 0 < most)
+  pub found : Surveyed ws (range_of (get_or ws 4 0 + 1) seg) r.found
+  pub room_left : (r.found.before < r.found.behind) ⊎ (get_or ws 1 0 < most)
 
 -- it is joined and written, as the machine does
 pub record CarriedOut (ws seg buf ws' buf' : List ℕ) : Type 0 where

@@ -9,36 +9,33 @@ ghost use Rattle.tp_stream.specs.Promises.{Took};
 ghost use Rattle.tp_words.specs.Words.{stream_of, state_of};
 ghost use Rattle.tp_lent.specs.Lent.{Joins, Cleared};
 
-use refusal::{Count, Refusal, Verdict};
-use tp_machine::TpEnd;
+use refusal::Refusal;
 use tp_words::{put, stream_of, unfit};
 
 mod ranges; // ranges.rt: the ranges where they stand
+mod ready; // ready.rt: words that are judged but for their ranges
 mod order; // order.rt: one pass over them
 mod planning; // planning.rt: a segment that is accepted at once
 
 // One segment comes, by value: the stream is read out of the words, and put back where the segment is accepted.
-fn consume_by_value(words: &mut [u32], seg: &[u8], buf: &mut [u8]) -> Verdict
+fn consume_by_value(words: &mut [u32], seg: &[u8], buf: &mut [u8]) -> Result<(), Refusal>
     ensures { Joins words.old seg.now buf.old result words.new buf.new }
 {
     let step = tp_stream::consume(stream_of(words), seg, buf);
-    let answer = step.answer;
-    let Verdict::Passed = answer else {
-        return answer;
-    };
-    let stream = step.stream;
-    put(words, stream);
-    answer
+    step.answer?;
+    put(words, step.after);
+    Ok(())
 }
 
 // One segment comes; a refusal leaves words and buffer as they were.
-pub fn consume(words: &mut [u32], seg: &[u8], buf: &mut [u8]) -> Verdict
+pub fn consume(words: &mut [u32], seg: &[u8], buf: &mut [u8]) -> Result<(), Refusal>
     ensures { Joins words.old seg.now buf.old result words.new buf.new }
 {
-    let plan = planning::plan_of(words, seg, buf.len());
-    if plan.accepts {
-        planning::carry_out(words, seg, buf, plan);
-        return Verdict::Passed;
+    if let Some(first) = words.first_chunk_mut() {
+        if let Some(plan) = planning::plan_of(first, seg, buf.len()) {
+            planning::carry_out(first, seg, buf, plan);
+            return Ok(());
+        }
     }
     consume_by_value(words, seg, buf)
 }
@@ -47,41 +44,34 @@ pub fn consume(words: &mut [u32], seg: &[u8], buf: &mut [u8]) -> Verdict
 pub fn complete(words: &[u32]) -> bool
     ensures { result ≡ complete_of (state_of words.now) }
 {
-    if order::in_order(words) {
-        let end = tp_words::end_of(words[2], words[3]);
-        return tp_rules::whole(end, words[1] as usize, ranges::range_at(words, 0));
-    }
-    false
+    let Some(stream) = order::in_order(words) else {
+        return false;
+    };
+    tp_rules::whole(stream.end(), stream.count(), stream.range_at(0))
 }
 
 // Taking the report: answers 38, 37 and 34, or the length field is written and where the payload ends is told.
-pub fn take(words: &[u32], buf: &mut [u8]) -> Count
+pub fn take(words: &[u32], buf: &mut [u8]) -> Result<usize, Refusal>
     ensures { Took (stream_of words.now) buf.old result buf.new }
 {
-    if order::in_order(words) {
-        let known = tp_words::end_of(words[2], words[3]);
-        let answer = tp_rules::ready_of(
-            known,
-            words[1] as usize,
-            ranges::range_at(words, 0),
-            buf.len(),
-        );
-        let Count::Good(end) = answer else {
-            return answer;
-        };
-        tp_rules::put_length(buf, end);
-        return answer;
-    }
-    tp_stream::take(stream_of(words), buf)
+    let Some(stream) = order::in_order(words) else {
+        return tp_stream::take(stream_of(words), buf);
+    };
+    let end = tp_rules::ready_of(stream.end(), stream.count(), stream.range_at(0), buf.len())?;
+    tp_rules::put_length(buf, end);
+    Ok(end)
 }
 
 // The stream without its ranges, its end and its count: answer 38 where the words are unfit, and they are left alone.
-pub fn clear(words: &mut [u32]) -> Verdict
+pub fn clear(words: &mut [u32]) -> Result<(), Refusal>
     ensures { Cleared words.old result words.new }
 {
-    if unfit(words) {
-        return Verdict::Refused(Refusal::MalformedState);
+    let Some(first) = words.first_chunk_mut() else {
+        return Err(Refusal::MalformedState);
+    };
+    if unfit(first) {
+        return Err(Refusal::MalformedState);
     }
-    planning::put_front(words, 0, TpEnd::Unknown, 0);
-    Verdict::Passed
+    planning::put_front(first, 0, None, 0);
+    Ok(())
 }

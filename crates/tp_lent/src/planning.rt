@@ -1,119 +1,77 @@
 // A segment that is accepted at once: the tests that say so and change nothing, and then what is done. Where a test fails, the calls by value say
 // why; so each refusal is told in one place.
-ghost use Rattle.std.specs.Prelude.{◌≡◌, true, false, cond, ◌∷◌, ◌≤◌, length, drop, get_or};
+ghost use Rattle.std.specs.Prelude.{◌≡◌, true, cond, ◌∷◌, ◌<◌, ◌⊎◌, length, drop, get_or, IfSome};
 ghost use Rattle.numbers.specs.Answers.{pass};
 ghost use Rattle.tp_machine.specs.Machine.{most, previous};
 ghost use Rattle.tp_rules.specs.Judging.{header_judged};
-ghost use Rattle.tp_words.specs.Words.{size, end_of, known};
-ghost use Rattle.tp_lent.specs.Lent.{last_end, RoomLeft, Planned, CarriedOut};
+ghost use Rattle.tp_words.specs.Words.{end_of, known};
+ghost use Rattle.tp_lent.specs.Lent.{last_end, Planned, CarriedOut};
 
-use crate::order::{Found, last_end, survey, top_of, unready};
+use crate::order::{Found, survey};
 use crate::ranges::{grown_by, place};
-use refusal::Verdict;
-use tp_machine::{TpEnd, TpRange};
-use tp_range::{MAX_RANGES, UNUSED};
-use tp_segment::{SegmentAnswer, TpHeader};
+use crate::ready::Ready;
+use tp_machine::TpRange;
+use tp_range::MAX_RANGES;
+use tp_segment::TpHeader;
+use tp_words::Words;
 
-// Whether a segment is accepted at once. If so, its range, whether more follows, how many ranges stand before it and how many up to its end.
+// What is done with a segment that is accepted at once: its range, whether more follows, and what was found of the ranges that are held.
 #[derive(Clone, Copy)]
 pub(crate) struct Plan {
-    pub(crate) accepts: bool,
     pub(crate) new: TpRange,
     pub(crate) more: bool,
-    pub(crate) before: usize,
-    pub(crate) behind: usize,
-}
-
-// Not at once.
-fn not_at_once() -> Plan
-    ensures { result.accepts ≡ false }
-{
-    Plan {
-        accepts: false,
-        new: UNUSED,
-        more: false,
-        before: 0,
-        behind: 0,
-    }
+    pub(crate) found: Found,
 }
 
 // How far a segment has to reach: a final one to the end of the last range.
-fn least_end(words: &[u32], count: usize, more: bool) -> u32
-    requires { (count ≤ most) × (size ≤ length words.now) }
-    ensures { result ≡ cond more 0 (last_end words.now count) }
+fn least_end(stream: Ready<'_>, more: bool) -> u32
+    ensures { result ≡ cond more 0 (last_end stream.entry.words.now (get_or stream.entry.words.now 1 0)) }
 {
-    if more {
-        return 0;
-    }
-    last_end(words, count)
+    if more { 0 } else { stream.last_end() }
 }
 
-// Whether a segment with that header is copied at once, and not refused by 31 to 34, for a buffer of `room` bytes. (A longer one is copied by a loop, and
-// with that in this way every segment would take longer.)
-fn passes(words: &[u32], count: usize, header: TpHeader, room: usize) -> bool
-    requires { (count ≤ most) × (size ≤ length words.now) }
-    ensures { result ≡ true → header_judged (get_or words.now 0 0) (end_of (get_or words.now 2 0) (get_or words.now 3 0)) (cond header.more 0 (last_end words.now count)) header room ≡ pass }
+// Whether a segment with that header is not refused by 31 to 34, for a buffer of `room` bytes.
+fn passes(stream: Ready<'_>, header: TpHeader, room: usize) -> bool
+    ensures { result ≡ true → header_judged (get_or stream.entry.words.now 0 0) (end_of (get_or stream.entry.words.now 2 0) (get_or stream.entry.words.now 3 0)) (cond header.more 0 (last_end stream.entry.words.now (get_or stream.entry.words.now 1 0))) header room ≡ pass }
 {
-    if tp_rules::AT_ONCE < header.size {
-        return false;
-    }
-    let end = tp_words::end_of(words[2], words[3]);
-    let least = least_end(words, count, header.more);
-    let Verdict::Passed = tp_rules::judge_header(words[0], end, least, header, room) else {
-        return false;
-    };
-    true
+    let least = least_end(stream, header.more);
+    tp_rules::judge_header(stream.limit(), stream.end(), least, header, room).is_ok()
 }
 
-// Whether the ranges are in order, and there is a place for one more, or one to be joined.
+// Whether there is a place for one more range, or one to be joined.
 fn room_left(found: Found, count: usize) -> bool
-    ensures { result ≡ true → RoomLeft found count }
+    ensures { result ≡ true → (found.before < found.behind) ⊎ (count < most) }
 {
-    if found.fine {
-        if found.before < found.behind {
-            return true;
-        }
-        return count < MAX_RANGES;
-    }
-    false
+    found.before < found.behind || count < MAX_RANGES
 }
 
-// What is done with a segment for a buffer of `room` bytes.
-pub(crate) fn plan_of(words: &[u32], seg: &[u8], room: usize) -> Plan
-    ensures { result.accepts ≡ true → Planned words.now seg.now room result }
+// What is done with a segment for a buffer of `room` bytes; `None` where it is not accepted at once.
+pub(crate) fn plan_of(words: &Words, seg: &[u8], room: usize) -> Option<Plan>
+    ensures { IfSome result (λ plan. Planned words.now seg.now room plan) }
 {
-    if unready(words) {
-        return not_at_once();
+    let stream = Ready::of(words)?;
+    let header = tp_segment::read(seg).ok()?;
+    if !passes(stream, header, room) {
+        return None;
     }
-    let SegmentAnswer::Good(header) = tp_segment::read(seg) else {
-        return not_at_once();
+    let new = TpRange {
+        start: header.offset,
+        end: header.offset + header.size as u32,
+        number: stream.accepted().checked_add(1)?,
     };
-    let count = words[1] as usize;
-    if passes(words, count, header, room) {
-        if words[4] < tp_stream::LAST_NUMBER {
-            let new = TpRange {
-                start: header.offset,
-                end: header.offset + header.size as u32,
-                number: words[4] + 1,
-            };
-            let found = survey(words, count, top_of(words), new.start, new.end);
-            if room_left(found, count) {
-                return Plan {
-                    accepts: true,
-                    new,
-                    more: header.more,
-                    before: found.before,
-                    behind: found.behind,
-                };
-            }
-        }
+    let found = survey(stream, new)?;
+    if !room_left(found, stream.count()) {
+        return None;
     }
-    not_at_once()
+    Some(Plan {
+        new,
+        more: header.more,
+        found,
+    })
 }
 
 // How many ranges are held, the end and how many segments were accepted, into the words behind the limit.
-pub(crate) fn put_front(words: &mut [u32], count: u32, end: TpEnd, accepted: u32)
-    requires { size ≤ length words.old }
+pub(crate) fn put_front(words: &mut Words, count: u32, end: Option<u32>, accepted: u32)
     ensures { words.new ≡ get_or words.old 0 0 ∷ count ∷ known end ∷ previous end ∷ accepted ∷ drop 5 words.old }
 {
     words[1] = count;
@@ -123,20 +81,20 @@ pub(crate) fn put_front(words: &mut [u32], count: u32, end: TpEnd, accepted: u32
 }
 
 // A segment that is accepted at once is joined, where the ranges stand, and written.
-pub(crate) fn carry_out(words: &mut [u32], seg: &[u8], buf: &mut [u8], plan: Plan)
+pub(crate) fn carry_out(words: &mut Words, seg: &[u8], buf: &mut [u8], plan: Plan)
     requires { Planned words.old seg.now (length buf.old) plan }
     ensures { CarriedOut words.old seg.now buf.old words.new buf.new }
 {
-    let new = plan.new;
+    let Plan { new, more, found } = plan;
     let count = words[1] as usize;
     let before = tp_words::end_of(words[2], words[3]);
-    let end = tp_rules::end_after(before, plan.more, new.end);
-    let grown = grown_by(words, plan.before, plan.behind, new);
+    let end = tp_rules::end_after(before, more, new.end);
+    let grown = grown_by(words, found, new);
     tp_rules::write(buf, seg, new.start);
-    place(words, count, plan.before, plan.behind, grown);
+    place(words, count, found, grown);
     put_front(
         words,
-        (plan.before + 1 + (count - plan.behind)) as u32,
+        (found.before + 1 + (count - found.behind)) as u32,
         end,
         new.number,
     );

@@ -1,5 +1,6 @@
 -- Order doesn't matter. Up to the claim nothing goes along a run: whether a stream is complete and what its report is was shown of its accepted
 -- segments (EveryRun, EveryReport, EveryEnd), and of them it is enough to see that no order is told. Assumes nothing.
+use Rattle.std.specs.Prelude.{Option, Some, ℕ}
 use Prim.Native.Nat.{ℕ, ◌+◌, ◌-◌, ◌≤◌, ◌<◌}
 use mathlib.Core.Path.{◌≡◌, refl, sym, ap, subst, ◌∙◌}
 use mathlib.Core.Bool.{Bool, true, false, cond, or-false, false≢true}
@@ -15,8 +16,6 @@ use Rattle.numbers.specs.Answers.{accepted, Verdict, All}
 use Rattle.numbers.proofs.AnswerLaws.{all_map, all_both}
 use Rattle.numbers.proofs.TestLaws.{same_test}
 use Rattle.tp_machine.specs.declared.TpRange.{TpRange}
-use Rattle.tp_machine.specs.declared.TpEnd.{TpEnd}
-use Rattle.tp_machine.specs.declared.TpEnd.TheVariants.{Known}
 use Rattle.tp_machine.specs.Lists.{OneOf, counted, Rearranged, Latest}
 use Rattle.tp_machine.specs.Segments.{offset, more, size, end_of, header, pasted}
 use Rattle.tp_machine.specs.Ranges.{any}
@@ -204,24 +203,24 @@ order_does_not_matter f g s e = (rest_is_enough f g e.rearranged e.none_refused 
 -- ---- what follows where none is refused
 
 -- an end that is known stays
-stays_known : (p : State) (room : ℕ) (ss : List (List ℕ)) (e : ℕ) → Chain p room ss → p.end ≡ Known e → (taken_all p ss).end ≡ Known e
+stays_known : (p : State) (room : ℕ) (ss : List (List ℕ)) (e : ℕ) → Chain p room ss → p.end ≡ Some e → (taken_all p ss).end ≡ Some e
 unfolding taken_all
 stays_known p room [] e c k = k
-stays_known p room (s ∷ ss) e c k = stays_known (taken p s) room ss e c.1 (go (more s) (subst (λ (d : TpEnd). Agrees d (more s) (end_of s)) k c.0.agrees))
+stays_known p room (s ∷ ss) e c k = stays_known (taken p s) room ss e c.1 (go (more s) (subst (λ (d : Option ℕ). Agrees d (more s) (end_of s)) k c.0.agrees))
   where
-    go : (m : Bool) → Agrees (Known e) m (end_of s) → cond m p.end (Known (end_of s)) ≡ Known e
+    go : (m : Bool) → Agrees (Some e) m (end_of s) → cond m p.end (Some (end_of s)) ≡ Some e
     go true a = k
-    go false a = ap Known (a.1 refl)
+    go false a = ap Some (a.1 refl)
 
 -- so each final one tells it
-abbrev Tells : TpEnd → List ℕ → Type 0
-Tells e s = final s ≡ true → e ≡ Known (end_of s)
+abbrev Tells : Option ℕ → List ℕ → Type 0
+Tells e s = final s ≡ true → e ≡ Some (end_of s)
 
 each_final : (p : State) (room : ℕ) (ss : List (List ℕ)) → Chain p room ss → All (Tells (taken_all p ss).end) ss
 unfolding taken_all
 each_final p room [] c = tt
 each_final p room (s ∷ ss) c = (
-  (λ f. stays_known (taken p s) room ss (end_of s) c.1 (ap (λ (m : Bool). cond m p.end (Known (end_of s))) (not-true (more s) f))),
+  (λ f. stays_known (taken p s) room ss (end_of s) c.1 (ap (λ (m : Bool). cond m p.end (Some (end_of s))) (not-true (more s) f))),
   each_final (taken p s) room ss c.1,
 )
 

@@ -1,4 +1,5 @@
 -- The end of a stream: where it is known it is the greatest end held, and a complete stream's report ends there. Assumes nothing.
+use Rattle.std.specs.Prelude.{Option, Some, ℕ}
 use Prim.Native.Nat.{ℕ, ◌+◌, ◌≤◌, max}
 use mathlib.Core.Path.{◌≡◌, refl, sym, ap, ap₂, subst, ◌∙◌}
 use mathlib.Core.Bool.{Bool, true, false, cond, or-false, false≢true}
@@ -8,8 +9,6 @@ use lib.ListN.{length}
 use Rattle.numbers.specs.Answers.{accepted, refused, Verdict, All}
 use Rattle.numbers.proofs.AnswerLaws.{all_map}
 use Rattle.tp_machine.specs.declared.TpRange.{TpRange}
-use Rattle.tp_machine.specs.declared.TpEnd.{TpEnd}
-use Rattle.tp_machine.specs.declared.TpEnd.TheVariants.{Known}
 use Rattle.tp_machine.specs.Lists.{OneOf}
 use Rattle.tp_machine.specs.Segments.{more, end_of}
 use Rattle.tp_machine.specs.Ranges.{any, greatest_end}
@@ -30,13 +29,13 @@ use Rattle.tp_machine.proofs.Report.{every_report}
 -- ---- the greatest end held
 
 -- an accepted segment that ends at x, the greatest end before it being g: the end that is known then is the greatest
-reaches_end : (m : Bool) (d : TpEnd) (x g e : ℕ) → Agrees d m x → (m ≡ false → g ≤ x) → ((f : ℕ) → d ≡ Known f → g ≡ f) → cond m d (Known x) ≡ Known e → max x g ≡ e
-reaches_end true d x g e a c before q = let b : Agrees (Known e) true x = subst (λ (t : TpEnd). Agrees t true x) q a in omega (arith, b.0, before e q)
+reaches_end : (m : Bool) (d : Option ℕ) (x g e : ℕ) → Agrees d m x → (m ≡ false → g ≤ x) → ((f : ℕ) → d ≡ Some f → g ≡ f) → cond m d (Some x) ≡ Some e → max x g ≡ e
+reaches_end true d x g e a c before q = let b : Agrees (Some e) true x = subst (λ (t : Option ℕ). Agrees t true x) q a in omega (arith, b.0, before e q)
 reaches_end false d x g e a c before q = let same : x ≡ e = ap previous q in omega (arith, c refl)
 
 -- a state whose end, if it is known, is the greatest end held
 abbrev Kept : State → Type 0
-Kept p = (e : ℕ) → p.end ≡ Known e → Greatest p.ranges e
+Kept p = (e : ℕ) → p.end ≡ Some e → Greatest p.ranges e
 
 taken_kept : (p : State) (seg : List ℕ) (room : ℕ) → Accepted p seg room → Kept p → Kept (taken p seg)
 taken_kept p seg room t before e q =
@@ -70,7 +69,7 @@ complete_ends p r c =
 -- ---- a complete stream
 
 -- an end that is known is that of a final one of the segments
-told_by : (segs : List (List ℕ)) (d : TpEnd) (e : ℕ) → Ended segs d → d ≡ Known e → (s : List ℕ) × OneOf s segs × (final s ≡ true) × (end_of s ≡ e)
+told_by : (segs : List (List ℕ)) (d : Option ℕ) (e : ℕ) → Ended segs d → d ≡ Some e → (s : List ℕ) × OneOf s segs × (final s ≡ true) × (end_of s ≡ e)
 told_by segs d e ended k = go (any final segs) refl
   where
     go : (t : Bool) → any final segs ≡ t → (s : List ℕ) × OneOf s segs × (final s ≡ true) × (end_of s ≡ e)

@@ -1,4 +1,5 @@
 -- The machine follows the rules: line by line, as both are written. Assumes nothing.
+use Rattle.std.specs.Prelude.{Option, Some, None, ℕ}
 use Prim.Native.Nat.{ℕ, ◌+◌, ◌%◌, ◌<◌}
 use mathlib.Core.Path.{◌≡◌, refl, ap}
 use mathlib.Core.Bool.{Bool, true, false, not, or-true, false≢true}
@@ -13,8 +14,6 @@ use Rattle.numbers.specs.Rules.{Follows}
 use Rattle.numbers.proofs.TestLaws.{below, at_most, unequal, fails, lacks}
 use Rattle.numbers.proofs.RuleLaws.{follows_accepted, follows_if, follows_when}
 use Rattle.tp_machine.specs.declared.TpRange.{TpRange}
-use Rattle.tp_machine.specs.declared.TpEnd.{TpEnd}
-use Rattle.tp_machine.specs.declared.TpEnd.TheVariants.{Unknown, Known}
 use Rattle.tp_machine.specs.Segments.{is_segment, more, size, end_of}
 use Rattle.tp_machine.specs.Ranges.{greatest_end}
 use Rattle.tp_machine.specs.Machine.{most, last_number, State, bad_state, not_aligned, conflicts, previous, data_past, taken, judged, begun}
@@ -39,15 +38,15 @@ unaligned_means seg = (
 )
 
 -- the test of a known end
-other_end : (e : ℕ) (m : Bool) (x : ℕ) → (conflicts (Known e) m x ≡ true) ↔ ((e < x) ⊎ ((m ≡ false) × (x ≢ e)))
+other_end : (e : ℕ) (m : Bool) (x : ℕ) → (conflicts (Some e) m x ≡ true) ↔ ((e < x) ⊎ ((m ≡ false) × (x ≢ e)))
 other_end e m x = (
   (λ t. ⊎_elim (λ p. inl (ltb-true e x p)) (λ p. let w = and_inv (not m) _ p in inr (not-true m w.0, (unequal x e).0 w.1)) (or_cases (ltb e x) _ t)),
   (λ w. ⊎_elim (λ p. rw (lt-ltb e x p)) (λ p. rw (p.0, ne_eqb x e p.1) (or-true (ltb e x))) w),
 )
 
-conflict_means : (end : TpEnd) (m : Bool) (x : ℕ) (r : Refusal) → Conflict end m x r ↔ ((conflicts end m x ≡ true) × (conflicting_end (previous end) x ≡ r))
-conflict_means Unknown m x r = ((λ w. let z : ◌≡◌ {A = ℕ} 0 1 = cc in absurd (omega arith)), (λ w. absurd (false≢true w.0)))
-conflict_means (Known e) m x r = (
+conflict_means : (end : Option ℕ) (m : Bool) (x : ℕ) (r : Refusal) → Conflict end m x r ↔ ((conflicts end m x ≡ true) × (conflicting_end (previous end) x ≡ r))
+conflict_means None m x r = ((λ w. let z : ◌≡◌ {A = ℕ} 0 1 = cc in absurd (omega arith)), (λ w. absurd (false≢true w.0)))
+conflict_means (Some e) m x r = (
   (λ w. let same : e ≡ w.previous = ap previous w.known in ((other_end e m x).1 (rw same w.other), rw same w.says)),
   (λ w. record { previous = e; known = refl; other = (other_end e m x).0 w.0; says = w.1 }),
 )

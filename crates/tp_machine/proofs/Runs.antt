@@ -1,4 +1,5 @@
 -- What every run of the machine keeps: it is what its accepted segments make of it, one after the other. Assumes nothing.
+use Rattle.std.specs.Prelude.{Option, Some, None, ℕ}
 use Prim.Native.Nat.{ℕ, ◌+◌, ◌≤◌, ◌<◌, min, max}
 use mathlib.Core.Path.{◌≡◌, refl, sym, ap, subst, ◌∙◌}
 use mathlib.Core.Bool.{Bool, true, false, ◌||◌, not, cond, or_assoc, or-false}
@@ -11,8 +12,6 @@ use lib.ListN.{length, get_or, length-append}
 use Rattle.numbers.specs.Answers.{accepted, refused, Verdict, pass, All}
 use Rattle.numbers.proofs.AnswerLaws.{all_map}
 use Rattle.tp_machine.specs.declared.TpRange.{TpRange}
-use Rattle.tp_machine.specs.declared.TpEnd.{TpEnd}
-use Rattle.tp_machine.specs.declared.TpEnd.TheVariants.{Unknown, Known}
 use Rattle.tp_machine.specs.Lists.{OneOf}
 use Rattle.tp_machine.specs.Segments.{offset, more, end_of, header, written}
 use Rattle.tp_machine.specs.Ranges.{any, hull_of, joined}
@@ -92,14 +91,14 @@ all_covers x = any_taken (holds x) (spans x) (λ number s. refl) (λ n rs. joini
 pub all_heads : (p : State) (ss : List (List ℕ)) → any at_zero (taken_all p ss).ranges ≡ (any heads ss || any at_zero p.ranges)
 all_heads = any_taken at_zero heads (λ number s. refl) joined_at_zero
 
-end_after : (m : Bool) (e k : TpEnd) → cond m e k ≡ cond (not m) k e
+end_after : (m : Bool) (e k : Option ℕ) → cond m e k ≡ cond (not m) k e
 end_after true e k = refl
 end_after false e k = refl
 
-pub all_end : (p : State) (ss : List (List ℕ)) → (taken_all p ss).end ≡ newest final (λ s. Known (end_of s)) p.end ss
+pub all_end : (p : State) (ss : List (List ℕ)) → (taken_all p ss).end ≡ newest final (λ s. Some (end_of s)) p.end ss
 unfolding taken_all newest
 all_end p [] = refl
-all_end p (s ∷ ss) = all_end (taken p s) ss ∙ ap (λ (e : TpEnd). newest final (λ t. Known (end_of t)) e ss) (end_after (more s) p.end (Known (end_of s)))
+all_end p (s ∷ ss) = all_end (taken p s) ss ∙ ap (λ (e : Option ℕ). newest final (λ t. Some (end_of t)) e ss) (end_after (more s) p.end (Some (end_of s)))
 
 pub all_limit : (p : State) (ss : List (List ℕ)) → (taken_all p ss).limit ≡ p.limit
 unfolding taken_all
@@ -207,10 +206,10 @@ pub newest_header : (i : ℕ) → i < 16 → (b : List ℕ) (ss : List (List ℕ
 newest_header i h = all_newest i heads (λ s. get_or (header s) i 0) (λ b s f. written_head b s f.0 f.1 i h)
 
 -- ---- the theorem
-ended : (p : State) (ss : List (List ℕ)) → p.end ≡ Unknown → Ended ss (taken_all p ss).end
+ended : (p : State) (ss : List (List ℕ)) → p.end ≡ None → Ended ss (taken_all p ss).end
 ended p ss e = record {
-  by = λ s l. all_end p ss ∙ newest_latest final (λ t. Known (end_of t)) p.end ss s l;
-  by_none = λ h. all_end p ss ∙ newest_none final (λ t. Known (end_of t)) p.end ss h ∙ e;
+  by = λ s l. all_end p ss ∙ newest_latest final (λ t. Some (end_of t)) p.end ss s l;
+  by_none = λ h. all_end p ss ∙ newest_none final (λ t. Some (end_of t)) p.end ss h ∙ e;
 }
 
 filled : (b : List ℕ) (ss : List (List ℕ)) → All (Fits (length b)) ss → Filled b ss (written_all b ss)

@@ -1,5 +1,6 @@
 -- The machine's tests mean what the rules say in plain words, both ways; and an accepted segment leaves no malformed state.
 -- Assumes nothing.
+use Rattle.std.specs.Prelude.{Option, Some, None, ℕ}
 use Prim.Native.Nat.{ℕ, ◌+◌, ◌-◌, ◌%◌, ◌≤◌, max}
 use mathlib.Core.Path.{◌≡◌, refl, sym, ap, ◌∙◌}
 use mathlib.Core.Bool.{Bool, true, false, not, cond, or-false, or-true, false≢true}
@@ -15,8 +16,6 @@ use Rattle.numbers.specs.Answers.{All}
 use Rattle.numbers.specs.Refusals.{not_a_segment, segment_too_big, unaligned, conflicting_end, buffer_too_short, ranges_full, malformed_state, count_full}
 use Rattle.numbers.proofs.AnswerLaws.{when_accepted, when_pass, all_map}
 use Rattle.tp_machine.specs.declared.TpRange.{TpRange}
-use Rattle.tp_machine.specs.declared.TpEnd.{TpEnd}
-use Rattle.tp_machine.specs.declared.TpEnd.TheVariants.{Unknown, Known}
 use Rattle.tp_machine.specs.Lists.{OneOf}
 use Rattle.tp_machine.specs.Segments.{tp_type, is_segment, offset, more, size, end_of}
 use Rattle.tp_machine.specs.Ranges.{any, hull_of, some_touch, greatest_end}
@@ -58,9 +57,9 @@ segment_means s = (
 )
 
 -- ---- 38
-not_before_means : (e : TpEnd) (x : ℕ) → (end_before e x ≡ false) ↔ NotBefore e x
-not_before_means Unknown x = ((λ e. tt), (λ h. refl))
-not_before_means (Known e) x = (ltb-false e x, le-ltb e x)
+not_before_means : (e : Option ℕ) (x : ℕ) → (end_before e x ≡ false) ↔ NotBefore e x
+not_before_means None x = ((λ e. tt), (λ h. refl))
+not_before_means (Some e) x = (ltb-false e x, le-ltb e x)
 
 given_means : (count number : ℕ) → (never_given count number ≡ false) ↔ ((1 ≤ number) × (number ≤ count))
 given_means count number = (
@@ -85,9 +84,9 @@ fine_means p r = (
       (neither _ _ ((not_before_means p.end r.end).1 f.not_past) ((given_means p.count r.number).1 (f.given, f.counted))))),
 )
 
-within_means : (e : TpEnd) (x : ℕ) → (end_past e x ≡ false) ↔ Within e x
-within_means Unknown x = ((λ e. tt), (λ h. refl))
-within_means (Known e) x = (ltb-false x e, le-ltb x e)
+within_means : (e : Option ℕ) (x : ℕ) → (end_past e x ≡ false) ↔ Within e x
+within_means None x = ((λ e. tt), (λ h. refl))
+within_means (Some e) x = (ltb-false x e, le-ltb x e)
 
 pub good_means : GoodMeans
 unfolding bad_state
@@ -117,9 +116,9 @@ aligned_means seg = (
   (λ f. not_both (more seg) (not (eqb (size seg % 16) 0)) (λ h. ap not (eq-eqb (size seg % 16) 0 (f h)))),
 )
 
-agrees_means : (e : TpEnd) (m : Bool) (x : ℕ) → (conflicts e m x ≡ false) ↔ Agrees e m x
-agrees_means Unknown m x = ((λ e. tt), (λ h. refl))
-agrees_means (Known e) m x = (
+agrees_means : (e : Option ℕ) (m : Bool) (x : ℕ) → (conflicts e m x ≡ false) ↔ Agrees e m x
+agrees_means None m x = ((λ e. tt), (λ h. refl))
+agrees_means (Some e) m x = (
   (λ q. let a = or_inv (ltb e x) _ q in (ltb-false e x a.0, (λ h. eqb-true x e (not-false (eqb x e) (and_fails (not m) (not (eqb x e)) a.1 (ap not h)))))),
   (λ h. neither _ _ (le-ltb e x h.0) (not_both (not m) (not (eqb x e)) (λ f. ap not (eq-eqb x e (h.1 (not-true m f)))))),
 )
@@ -167,9 +166,9 @@ accepted_means p seg room = (
 )
 
 -- ---- 37
-known_means : (e : TpEnd) → is_known e ≡ true → (x : ℕ) × (e ≡ Known x)
-known_means Unknown h = absurd (false≢true h)
-known_means (Known x) h = (x, refl)
+known_means : (e : Option ℕ) → is_known e ≡ true → (x : ℕ) × (e ≡ Some x)
+known_means None h = absurd (false≢true h)
+known_means (Some x) h = (x, refl)
 
 pub whole_means : (rs : List TpRange) → whole rs ≡ true → (e number : ℕ) × (rs ≡ range 0 e number ∷ [])
 whole_means [] h = absurd (false≢true h)
@@ -189,23 +188,23 @@ complete_means p = (
 )
 
 -- ---- what is left of an accepted segment
-within_after : (m : Bool) (e : TpEnd) (x limit : ℕ) → x ≤ limit → Within e limit → Within (cond m e (Known x)) limit
+within_after : (m : Bool) (e : Option ℕ) (x limit : ℕ) → x ≤ limit → Within e limit → Within (cond m e (Some x)) limit
 within_after true e x limit h w = w
 within_after false e x limit h w = h
 
 -- the end after it lies before neither its own end x nor that of a range
-not_before_new : (m : Bool) (e : TpEnd) (x : ℕ) → Agrees e m x → NotBefore (cond m e (Known x)) x
-not_before_new true Unknown x a = tt
-not_before_new true (Known e) x a = a.0
+not_before_new : (m : Bool) (e : Option ℕ) (x : ℕ) → Agrees e m x → NotBefore (cond m e (Some x)) x
+not_before_new true None x a = tt
+not_before_new true (Some e) x a = a.0
 not_before_new false e x a = le_refl x
 
-not_before_old : (m : Bool) (e : TpEnd) (x y : ℕ) → NotBefore e y → (m ≡ false → y ≤ x) → NotBefore (cond m e (Known x)) y
+not_before_old : (m : Bool) (e : Option ℕ) (x y : ℕ) → NotBefore e y → (m ≡ false → y ≤ x) → NotBefore (cond m e (Some x)) y
 not_before_old true e x y h f = h
 not_before_old false e x y h f = f refl
 
-not_before_both : (e : TpEnd) (x y : ℕ) → NotBefore e x → NotBefore e y → NotBefore e (max x y)
-not_before_both Unknown x y h k = tt
-not_before_both (Known e) x y h k = omega arith
+not_before_both : (e : Option ℕ) (x y : ℕ) → NotBefore e x → NotBefore e y → NotBefore e (max x y)
+not_before_both None x y h k = tt
+not_before_both (Some e) x y h k = omega arith
 
 fine_hull : (p : State) (g r : TpRange) → Fine p g → Fine p r → Fine p (hull_of g r)
 unfolding hull_of

@@ -1,4 +1,5 @@
 -- The order of the ranges is not seen: states with the same ranges answer alike, and come to states with the same ranges. Assumes nothing.
+use Rattle.std.specs.Prelude.{Option, ℕ}
 use Prim.Native.Nat.{ℕ, ◌+◌, ◌≤◌}
 use mathlib.Core.Path.{◌≡◌, refl, sym, ap, subst, ◌∙◌}
 use mathlib.Core.Bool.{Bool, true, false, not, and-false}
@@ -10,7 +11,6 @@ use Rattle.numbers.specs.Refusals.{malformed_state, not_complete}
 use Rattle.numbers.specs.Answers.{accepted, refused, Verdict, refuse◌when◌else◌, All}
 use Rattle.numbers.proofs.AnswerLaws.{all_map}
 use Rattle.tp_machine.specs.declared.TpRange.{TpRange}
-use Rattle.tp_machine.specs.declared.TpEnd.{TpEnd}
 use Rattle.tp_machine.specs.Lists.{Pairwise, Rearranged}
 use Rattle.tp_machine.specs.Machine.{State, bad_range, bad_state, taken, judged, after, step, fed, clear}
 use Rattle.tp_machine.specs.Taking.{is_known, whole, complete, ready, taking}
@@ -50,10 +50,10 @@ ready_none : (p : State) (room : ℕ) → complete p ≡ false → ready p room 
 unfolding ready refuse◌when◌else◌
 ready_none p room e = rw e
 
-abbrev state : ℕ → TpEnd → ℕ → List TpRange → State
+abbrev state : ℕ → Option ℕ → ℕ → List TpRange → State
 state limit end count rs = record { limit = limit; ranges = rs; end = end; count = count }
 
-module _ (limit : ℕ) (end : TpEnd) (count : ℕ) (rs qs : List TpRange) (r : Rearranged rs qs) where
+module _ (limit : ℕ) (end : Option ℕ) (count : ℕ) (rs qs : List TpRange) (r : Rearranged rs qs) where
   p : State
   p = state limit end count rs
 

@@ -1,13 +1,11 @@
 -- Computed beside the marked case: the rules' unmarked cases of joining, and both sides of the lines that those cases leave open: what is a
 -- segment, another end, how many ranges are held, the numbers of arrival, the highest limit, the buffer's length, each rule of 38, and which bytes a
 -- segment writes. The marked case is in specs/Cases.antt. Assumes nothing: these are definitions.
-use Rattle.std.specs.Prelude.{ℕ, zero, suc, ◌+◌, ◌*◌, ◌≡◌, Bool, true, false, List, [], ◌∷◌, ◌++◌, length, take, drop, replicate}
+use Rattle.std.specs.Prelude.{ℕ, zero, suc, ◌+◌, ◌*◌, ◌≡◌, Bool, true, false, List, [], ◌∷◌, ◌++◌, length, take, drop, replicate, Option, Some, None}
 use Rattle.numbers.specs.Bytes.{be32}
 use Rattle.numbers.specs.Refusals.{refusal}
 use Rattle.numbers.specs.Answers.{accepted, refused, Verdict, pass, All}
 use Rattle.tp_machine.specs.declared.TpRange.{TpRange}
-use Rattle.tp_machine.specs.declared.TpEnd.{TpEnd}
-use Rattle.tp_machine.specs.declared.TpEnd.TheVariants.{Unknown, Known}
 use Rattle.tp_machine.specs.Segments.{is_segment}
 use Rattle.tp_machine.specs.Machine.{State, fresh, Out, bad_state, step, begun, begin, opened, fed, clear}
 use Rattle.tp_machine.specs.Taking.{complete, taking}
@@ -114,27 +112,27 @@ abbrev pub spread : ℕ → List TpRange
 spread zero = []
 spread (suc n) = range n n 1 ∷ spread n
 
-abbrev pub holding_these : (limit : ℕ) → List TpRange → TpEnd → State
+abbrev pub holding_these : (limit : ℕ) → List TpRange → Option ℕ → State
 holding_these limit rs end = record { limit = limit; ranges = rs; end = end; count = 1 }
 
 -- a state that holds 0 to 16 with that number, after so many accepted segments
 abbrev pub numbered : (number count : ℕ) → State
-numbered number count = record { limit = 2112; ranges = range 0 16 number ∷ []; end = Unknown; count = count }
+numbered number count = record { limit = 2112; ranges = range 0 16 number ∷ []; end = None; count = count }
 
 pub record Malformed : Type 0 where
-  pub sixty_four : bad_state (holding_these 64 (spread 64) Unknown) ≡ false
-  pub sixty_five : bad_state (holding_these 64 (spread 65) Unknown) ≡ true
+  pub sixty_four : bad_state (holding_these 64 (spread 64) None) ≡ false
+  pub sixty_five : bad_state (holding_these 64 (spread 65) None) ≡ true
   pub highest_limit : bad_state (fresh 65520) ≡ false
   pub past_highest : bad_state (fresh 65521) ≡ true
-  pub end_at_limit : bad_state (holding_these 64 [] (Known 64)) ≡ false
-  pub end_past_limit : bad_state (holding_these 64 [] (Known 65)) ≡ true
-  pub range_to_limit : bad_state (holding_these 64 (range 64 64 1 ∷ []) Unknown) ≡ false
-  pub range_past_limit : bad_state (holding_these 64 (range 64 65 1 ∷ []) Unknown) ≡ true
-  pub range_to_end : bad_state (holding_these 64 (range 0 32 1 ∷ []) (Known 32)) ≡ false
-  pub range_past_end : bad_state (holding_these 64 (range 0 32 1 ∷ []) (Known 31)) ≡ true
-  pub range_backwards : bad_state (holding_these 64 (range 2 1 1 ∷ []) Unknown) ≡ true
-  pub ranges_apart : bad_state (holding_these 64 (range 0 1 1 ∷ range 2 3 1 ∷ []) Unknown) ≡ false
-  pub ranges_touch : bad_state (holding_these 64 (range 0 1 1 ∷ range 1 2 1 ∷ []) Unknown) ≡ true
+  pub end_at_limit : bad_state (holding_these 64 [] (Some 64)) ≡ false
+  pub end_past_limit : bad_state (holding_these 64 [] (Some 65)) ≡ true
+  pub range_to_limit : bad_state (holding_these 64 (range 64 64 1 ∷ []) None) ≡ false
+  pub range_past_limit : bad_state (holding_these 64 (range 64 65 1 ∷ []) None) ≡ true
+  pub range_to_end : bad_state (holding_these 64 (range 0 32 1 ∷ []) (Some 32)) ≡ false
+  pub range_past_end : bad_state (holding_these 64 (range 0 32 1 ∷ []) (Some 31)) ≡ true
+  pub range_backwards : bad_state (holding_these 64 (range 2 1 1 ∷ []) None) ≡ true
+  pub ranges_apart : bad_state (holding_these 64 (range 0 1 1 ∷ range 2 3 1 ∷ []) None) ≡ false
+  pub ranges_touch : bad_state (holding_these 64 (range 0 1 1 ∷ range 1 2 1 ∷ []) None) ≡ true
   pub number_zero : bad_state (numbered 0 5) ≡ true
   pub number_one : bad_state (numbered 1 5) ≡ false
   pub number_of_count : bad_state (numbered 5 5) ≡ false
@@ -142,7 +140,7 @@ pub record Malformed : Type 0 where
 
 -- a state with a range past its end, which would else be complete: 38, and nothing is written
 abbrev pub overrun : State
-overrun = holding_these 64 (range 0 32 1 ∷ []) (Known 16)
+overrun = holding_these 64 (range 0 32 1 ∷ []) (Some 16)
 
 pub record OverrunRefused : Type 0 where
   pub comes : step overrun (16 final_at 0) (replicate 80 9) ≡ record { answer = refused (refusal 38 []); state = overrun; buffer = replicate 80 9 }
@@ -163,7 +161,7 @@ numbering o = record { answer = o.answer; count = o.state.count; ranges = o.stat
 
 -- 64 ranges are held, and no number is left
 abbrev pub full_and_counted_out : State
-full_and_counted_out = record { limit = 64; ranges = spread 64; end = Unknown; count = 4294967295 }
+full_and_counted_out = record { limit = 64; ranges = spread 64; end = None; count = 4294967295 }
 
 -- 16 bytes at 16 come to a state
 abbrev pub sixteen_to : State → Numbering
@@ -197,7 +195,7 @@ pub record Arrivals : Type 0 where
   pub told_none : range_told (after_all (16 more_at 64 ∷ 16 more_at 0 ∷ [])).state 65 ≡ refused (refusal 20 [])
   pub told_count : count_told (after_all (16 more_at 32 ∷ 16 more_at 0 ∷ 16 more_at 16 ∷ [])).state ≡ accepted 3
   -- a report is taken at the last number all the same
-  pub taken_at_last : (taking (record { limit = 64; ranges = range 0 16 7 ∷ []; end = Known 16; count = 4294967295 }) (replicate 32 9)).answer ≡ accepted 16
+  pub taken_at_last : (taking (record { limit = 64; ranges = range 0 16 7 ∷ []; end = Some 16; count = 4294967295 }) (replicate 32 9)).answer ≡ accepted 16
 
 pub record Bounds : Type 0 where
   pub cases : Hold unmarked
@@ -205,7 +203,7 @@ pub record Bounds : Type 0 where
   pub ends_known : Hold ends
   pub ends_below : Hold ends_behind
   -- where both rules of 33 hold, the end that is known is the previous one
-  pub known_end_first : (step (holding_these 64 (range 0 32 1 ∷ []) (Known 64)) (16 final_at 0) (replicate 80 9)).answer ≡ refused (refusal 33 (64 ∷ 16 ∷ []))
+  pub known_end_first : (step (holding_these 64 (range 0 32 1 ∷ []) (Some 64)) (16 final_at 0) (replicate 80 9)).answer ≡ refused (refusal 33 (64 ∷ 16 ∷ []))
   pub fills : Fills
   pub full : Full
   pub odd_even : OddEven

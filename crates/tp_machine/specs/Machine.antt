@@ -1,11 +1,9 @@
 -- The plain machine of one stream, over values: its state, the refusals of a segment in their order, and what one call leaves.
 -- Assumes nothing: these are definitions.
-use Rattle.std.specs.Prelude.{ℕ, ◌+◌, ◌%◌, Bool, false, ◌&&◌, ◌||◌, not, cond, List, [], ◌∷◌, length, leb, ltb, eqb}
+use Rattle.std.specs.Prelude.{ℕ, ◌+◌, ◌%◌, Bool, false, ◌&&◌, ◌||◌, not, cond, List, [], ◌∷◌, length, leb, ltb, eqb, Option, Some, None}
 use Rattle.numbers.specs.Refusals.{not_a_segment, segment_too_big, unaligned, conflicting_end, buffer_too_short, ranges_full, limit_too_large, malformed_state, count_full}
 use Rattle.numbers.specs.Answers.{accepted, refused, Verdict, pass, refuse◌when◌else◌}
 use Rattle.tp_machine.specs.declared.TpRange.{TpRange}
-use Rattle.tp_machine.specs.declared.TpEnd.{TpEnd}
-use Rattle.tp_machine.specs.declared.TpEnd.TheVariants.{Unknown, Known}
 use Rattle.tp_machine.specs.Segments.{is_segment, offset, more, size, end_of, written}
 use Rattle.tp_machine.specs.Ranges.{any, joined, some_touch, greatest_end}
 
@@ -23,19 +21,19 @@ last_number = 4294967295
 pub record State : Type 0 where
   pub limit : ℕ
   pub ranges : List TpRange
-  pub end : TpEnd
+  pub end : Option ℕ
   pub count : ℕ
 
 -- a state that holds nothing
 abbrev pub fresh : ℕ → State
-fresh limit = record { limit = limit; ranges = []; end = Unknown; count = 0 }
+fresh limit = record { limit = limit; ranges = []; end = None; count = 0 }
 
 -- ---- 38: the states that are malformed
 
 -- a known end before x
-abbrev pub end_before : TpEnd → ℕ → Bool
-end_before Unknown x = false
-end_before (Known e) x = ltb e x
+abbrev pub end_before : Option ℕ → ℕ → Bool
+end_before None x = false
+end_before (Some e) x = ltb e x
 
 -- a number that no accepted segment has had: they have 1 up to the count
 abbrev pub never_given : (count number : ℕ) → Bool
@@ -46,9 +44,9 @@ unfoldable pub bad_range : State → TpRange → Bool
 bad_range p r = ltb r.end r.start || (ltb p.limit r.end || (end_before p.end r.end || never_given p.count r.number))
 
 -- a known end past x
-abbrev pub end_past : TpEnd → ℕ → Bool
-end_past Unknown x = false
-end_past (Known e) x = ltb x e
+abbrev pub end_past : Option ℕ → ℕ → Bool
+end_past None x = false
+end_past (Some e) x = ltb x e
 
 -- more than `most` ranges, a limit above the highest, an end past the limit, a bad range, or two that touch
 unfoldable pub bad_state : State → Bool
@@ -63,13 +61,13 @@ abbrev pub not_aligned : List ℕ → Bool
 not_aligned seg = more seg && not (eqb (size seg % 16) 0)
 
 -- an end is known, and the new end x is past it, or this is a final segment with another end
-abbrev pub conflicts : TpEnd → Bool → ℕ → Bool
-conflicts Unknown m x = false
-conflicts (Known e) m x = ltb e x || (not m && not (eqb x e))
+abbrev pub conflicts : Option ℕ → Bool → ℕ → Bool
+conflicts None m x = false
+conflicts (Some e) m x = ltb e x || (not m && not (eqb x e))
 
-abbrev pub previous : TpEnd → ℕ
-previous Unknown = 0
-previous (Known e) = e
+abbrev pub previous : Option ℕ → ℕ
+previous None = 0
+previous (Some e) = e
 
 -- this is a final segment, and its end x lies below the greatest end held
 abbrev pub data_past : List TpRange → Bool → ℕ → Bool
@@ -83,7 +81,7 @@ abbrev pub taken : State → List ℕ → State
 taken p seg = record {
   limit = p.limit;
   ranges = joined (record { start = offset seg; end = end_of seg; number = p.count + 1 }) p.ranges;
-  end = cond (more seg) p.end (Known (end_of seg));
+  end = cond (more seg) p.end (Some (end_of seg));
   count = p.count + 1;
 }
 

@@ -1,11 +1,9 @@
 -- The rules' conditions of joining in plain words: what the machine's tests are shown to mean.
 -- Assumes nothing: these are definitions.
-use Rattle.std.specs.Prelude.{ℕ, ◌+◌, ◌*◌, ◌/◌, ◌%◌, ◌≤◌, ◌<◌, ◌≡◌, Bool, true, false, List, [], ◌∷◌, ◌⊎◌, ◌≢◌, length, get_or}
+use Rattle.std.specs.Prelude.{ℕ, ◌+◌, ◌*◌, ◌/◌, ◌%◌, ◌≤◌, ◌<◌, ◌≡◌, Bool, true, false, List, [], ◌∷◌, ◌⊎◌, ◌≢◌, length, get_or, Option, Some, None}
 use Rattle.numbers.specs.Bytes.{at32}
 use Rattle.numbers.specs.Answers.{All}
 use Rattle.tp_machine.specs.declared.TpRange.{TpRange}
-use Rattle.tp_machine.specs.declared.TpEnd.{TpEnd}
-use Rattle.tp_machine.specs.declared.TpEnd.TheVariants.{Unknown, Known}
 use Rattle.tp_machine.specs.Lists.{OneOf, Pairwise}
 use Rattle.tp_machine.specs.Segments.{offset, more, size}
 use Rattle.tp_machine.specs.Ranges.{joined}
@@ -55,9 +53,9 @@ abbrev pub InOrder : List TpRange → Type 0
 InOrder rs = Pairwise Before rs
 
 -- an end, if known, is at least x
-abbrev pub NotBefore : TpEnd → ℕ → Type 0
-NotBefore Unknown x = Unit {0}
-NotBefore (Known e) x = x ≤ e
+abbrev pub NotBefore : Option ℕ → ℕ → Type 0
+NotBefore None x = Unit {0}
+NotBefore (Some e) x = x ≤ e
 
 -- a range as a state may hold it: its number is one that an accepted segment has had
 pub record Fine (p : State) (r : TpRange) : Type 0 where
@@ -68,9 +66,9 @@ pub record Fine (p : State) (r : TpRange) : Type 0 where
   pub counted : r.number ≤ p.count
 
 -- an end, if known, is at most x
-abbrev pub Within : TpEnd → ℕ → Type 0
-Within Unknown x = Unit {0}
-Within (Known e) x = e ≤ x
+abbrev pub Within : Option ℕ → ℕ → Type 0
+Within None x = Unit {0}
+Within (Some e) x = e ≤ x
 
 pub record Good (p : State) : Type 0 where
   pub few : length p.ranges ≤ most
@@ -82,9 +80,9 @@ pub record Good (p : State) : Type 0 where
 -- ---- not 31 to 35, nor 39
 
 -- not 33, twice: where an end is known, the new end x isn't past it, and a final segment has that end
-abbrev pub Agrees : TpEnd → (more : Bool) (x : ℕ) → Type 0
-Agrees Unknown more x = Unit {0}
-Agrees (Known e) more x = (x ≤ e) × (more ≡ false → x ≡ e)
+abbrev pub Agrees : Option ℕ → (more : Bool) (x : ℕ) → Type 0
+Agrees None more x = Unit {0}
+Agrees (Some e) more x = (x ≤ e) × (more ≡ false → x ≡ e)
 
 -- and no range ends past a final segment
 abbrev pub Closes : List TpRange → (more : Bool) (x : ℕ) → Type 0
@@ -113,7 +111,7 @@ pub record Accepted (p : State) (seg : List ℕ) (room : ℕ) : Type 0 where
 pub record Complete (p : State) : Type 0 where
   pub good : Good p
   pub end : ℕ
-  pub known : p.end ≡ Known end
+  pub known : p.end ≡ Some end
   pub held : ℕ
   pub number : ℕ
   pub one_range : p.ranges ≡ range 0 held number ∷ []

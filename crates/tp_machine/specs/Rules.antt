@@ -1,12 +1,10 @@
 -- The rules of joining in plain words and in their order, each refusal with its number and its values. The machine follows them
 -- (specs/Theorems.antt): each call is refused exactly by the first rule whose condition holds. Assumes nothing: these are definitions.
-use Rattle.std.specs.Prelude.{ℕ, ◌+◌, ◌%◌, ◌≤◌, ◌<◌, ◌≡◌, Bool, true, false, List, [], ◌∷◌, ◌⊎◌, ◌≢◌, length}
+use Rattle.std.specs.Prelude.{ℕ, ◌+◌, ◌%◌, ◌≤◌, ◌<◌, ◌≡◌, Bool, true, false, List, [], ◌∷◌, ◌⊎◌, ◌≢◌, length, Option, Some}
 use Rattle.numbers.specs.Refusals.{Refusal, refusal}
 use Rattle.numbers.specs.Answers.{All}
 use Rattle.numbers.specs.Rules.{Rules, accept, ◌if◌else◌, part◌else◌}
 use Rattle.tp_machine.specs.declared.TpRange.{TpRange}
-use Rattle.tp_machine.specs.declared.TpEnd.{TpEnd}
-use Rattle.tp_machine.specs.declared.TpEnd.TheVariants.{Known}
 use Rattle.tp_machine.specs.Segments.{offset, more, size, end_of}
 use Rattle.tp_machine.specs.Ranges.{joined}
 use Rattle.tp_machine.specs.Machine.{most, State}
@@ -20,9 +18,9 @@ begin_rules limit =
     accept
 
 -- 33: an end is known, and the new end is past it, or this is a final segment with another end
-pub record Conflict (end : TpEnd) (more : Bool) (new : ℕ) (r : Refusal) : Type 0 where
+pub record Conflict (end : Option ℕ) (more : Bool) (new : ℕ) (r : Refusal) : Type 0 where
   pub previous : ℕ
-  pub known : end ≡ Known previous
+  pub known : end ≡ Some previous
   pub other : (previous < new) ⊎ ((more ≡ false) × (new ≢ previous))
   pub says : refusal 33 (previous ∷ new ∷ []) ≡ r
 

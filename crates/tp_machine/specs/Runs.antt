@@ -1,11 +1,9 @@
 -- Runs of the machine: which segments were accepted, what the ranges cover, what their numbers are, what the buffer holds, what the report is;
 -- and states that differ only in the order of their ranges, or only in numbers. Assumes nothing: these are definitions.
-use Rattle.std.specs.Prelude.{ℕ, ◌+◌, ◌-◌, ◌≤◌, ◌<◌, ◌≡◌, Bool, true, false, ◌&&◌, not, List, [], ◌∷◌, ◌++◌, map, ◌≢◌, length, get_or, leb, ltb, eqb}
+use Rattle.std.specs.Prelude.{ℕ, ◌+◌, ◌-◌, ◌≤◌, ◌<◌, ◌≡◌, Bool, true, false, ◌&&◌, not, List, [], ◌∷◌, ◌++◌, map, ◌≢◌, length, get_or, leb, ltb, eqb, Option, Some, None}
 use Rattle.numbers.specs.Bytes.{be32}
 use Rattle.numbers.specs.Answers.{accepted, refused, Verdict, All}
 use Rattle.tp_machine.specs.declared.TpRange.{TpRange}
-use Rattle.tp_machine.specs.declared.TpEnd.{TpEnd}
-use Rattle.tp_machine.specs.declared.TpEnd.TheVariants.{Unknown, Known}
 use Rattle.tp_machine.specs.Lists.{OneOf, Pairwise, Rearranged, Latest}
 use Rattle.tp_machine.specs.Segments.{offset, more, end_of, payload, header, pasted}
 use Rattle.tp_machine.specs.Ranges.{any}
@@ -77,9 +75,9 @@ pub record Numbered (segs : List (List ℕ)) (r : TpRange) : Type 0 where
   pub its_place : r.number ≡ length latest.before + 1
 
 -- the end that is known
-pub record Ended (segs : List (List ℕ)) (e : TpEnd) : Type 0 where
-  pub by : (s : List ℕ) → Latest final segs s → e ≡ Known (end_of s)
-  pub by_none : any final segs ≡ false → e ≡ Unknown
+pub record Ended (segs : List (List ℕ)) (e : Option ℕ) : Type 0 where
+  pub by : (s : List ℕ) → Latest final segs s → e ≡ Some (end_of s)
+  pub by_none : any final segs ≡ false → e ≡ None
 
 -- the whole ends at e: a final one of them ends there, and none past it
 pub record WholeEnds (segs : List (List ℕ)) (e : ℕ) : Type 0 where

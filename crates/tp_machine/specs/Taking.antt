@@ -1,17 +1,15 @@
 -- Whether a stream is complete, and taking its report. Assumes nothing: these are definitions.
-use Rattle.std.specs.Prelude.{ℕ, ◌+◌, Bool, true, false, ◌&&◌, not, List, [], ◌∷◌, length, take, ltb, eqb}
+use Rattle.std.specs.Prelude.{ℕ, ◌+◌, Bool, true, false, ◌&&◌, not, List, [], ◌∷◌, length, take, ltb, eqb, Option, Some, None}
 use Rattle.numbers.specs.Bytes.{be32}
 use Rattle.numbers.specs.Refusals.{buffer_too_short, not_complete, malformed_state}
 use Rattle.numbers.specs.Answers.{Answer, accepted, refused, refuse◌when◌else◌, given, part}
 use Rattle.tp_machine.specs.declared.TpRange.{TpRange}
-use Rattle.tp_machine.specs.declared.TpEnd.{TpEnd}
-use Rattle.tp_machine.specs.declared.TpEnd.TheVariants.{Unknown, Known}
 use Rattle.tp_machine.specs.Segments.{pasted}
 use Rattle.tp_machine.specs.Machine.{State, bad_state}
 
-abbrev pub is_known : TpEnd → Bool
-is_known Unknown = false
-is_known (Known e) = true
+abbrev pub is_known : Option ℕ → Bool
+is_known None = false
+is_known (Some e) = true
 
 -- exactly one range, beginning at 0
 abbrev pub whole : List TpRange → Bool

@@ -1,11 +1,10 @@
 -- What is shown of the machine: each a statement, and all of them together at the end. Assumes nothing: these are definitions.
-use Rattle.std.specs.Prelude.{ℕ, ◌+◌, ◌≤◌, ◌<◌, ◌≡◌, Bool, true, false, ◌||◌, List, [], ◌∷◌, map, ◌↔◌, length, take, get_or}
+use Rattle.std.specs.Prelude.{ℕ, ◌+◌, ◌≤◌, ◌<◌, ◌≡◌, Bool, true, false, ◌||◌, List, [], ◌∷◌, map, ◌↔◌, length, take, get_or, Some, None}
 use Rattle.numbers.specs.Bytes.{be32}
 use Rattle.numbers.specs.Refusals.{Refusal}
 use Rattle.numbers.specs.Answers.{accepted, refused, pass, All}
 use Rattle.numbers.specs.Rules.{Follows}
 use Rattle.tp_machine.specs.declared.TpRange.{TpRange}
-use Rattle.tp_machine.specs.declared.TpEnd.TheVariants.{Unknown, Known}
 use Rattle.tp_machine.specs.Lists.{OneOf, Rearranged, Latest}
 use Rattle.tp_machine.specs.Segments.{is_segment, header, pasted, written}
 use Rattle.tp_machine.specs.Ranges.{any, joined, greatest_end}
@@ -60,7 +59,7 @@ pub record RulesFollowed : Type 0 where
 pub record Empty (limit : ℕ) (p : State) : Type 0 where
   pub limit_is : p.limit ≡ limit
   pub no_range : p.ranges ≡ []
-  pub no_end : p.end ≡ Unknown
+  pub no_end : p.end ≡ None
   pub none_counted : p.count ≡ 0
 
 pub record Empties : Type 0 where
@@ -122,11 +121,11 @@ NeverMalformed = (p : State) → Reached p → Good p
 
 -- where an end is known it is the greatest end held: a range reaches it, and none passes it
 abbrev pub EndIsGreatest : Type 0
-EndIsGreatest = (p : State) → Reached p → (e : ℕ) → p.end ≡ Known e → Greatest p.ranges e
+EndIsGreatest = (p : State) → Reached p → (e : ℕ) → p.end ≡ Some e → Greatest p.ranges e
 
 -- so a complete stream's one range ends at the known end; its number is the count
 abbrev pub CompleteEnds : Type 0
-CompleteEnds = (p : State) → Reached p → complete p ≡ true → (e : ℕ) × (p.end ≡ Known e) × (p.ranges ≡ range 0 e p.count ∷ [])
+CompleteEnds = (p : State) → Reached p → complete p ≡ true → (e : ℕ) × (p.end ≡ Some e) × (p.ranges ≡ range 0 e p.count ∷ [])
 
 -- joining keeps ranges in order, so those of every state that a run comes to are
 pub record KeptInOrder : Type 0 where
@@ -176,7 +175,7 @@ EveryReport = (limit : ℕ) (buf : List ℕ) (ss : List (List ℕ)) → complete
 -- plus that end bytes
 pub record Closed (o : Out) (segs : List (List ℕ)) : Type 0 where
   pub end : ℕ
-  pub known : o.state.end ≡ Known end
+  pub known : o.state.end ≡ Some end
   pub one_range : o.state.ranges ≡ range 0 end o.state.count ∷ []
   pub whole : WholeEnds segs end
   pub report_length : length (taking o.state o.buffer).part ≡ 16 + end

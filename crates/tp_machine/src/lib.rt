@@ -8,10 +8,3 @@ pub struct TpRange {
     pub end: u32,
     pub number: u32,
 }
-
-// Where the whole payload ends: told by a final segment.
-#[derive(Clone, Copy)]
-pub enum TpEnd {
-    Unknown,
-    Known(u32),
-}

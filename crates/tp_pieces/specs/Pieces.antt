@@ -1,8 +1,7 @@
 -- The segment that a piece stands for, and what is promised of the calls that hand it to a stream and to the exported one. Assumes nothing: these
 -- are definitions.
-use Rattle.std.specs.Prelude.{ℕ, ◌*◌, ◌/◌, min, ◌≡◌, List, []}
-use Rattle.refusal.specs.declared.answers.Verdict.{Verdict}
-use Rattle.refusal.specs.declared.answers.Verdict.TheVariants.{Passed, Refused}
+use Rattle.refusal.specs.declared.Refusal.{Refusal}
+use Rattle.std.specs.Prelude.{ℕ, ◌*◌, ◌/◌, min, ◌≡◌, List, [], Result, Ok, Err}
 use Rattle.refusal.specs.declared.values.Numbers.{Numbers}
 use Rattle.refusal.specs.Said.{said, laid}
 use Rattle.numbers.specs.Refusals.{refusal}
@@ -30,27 +29,30 @@ abbrev pub bytes : Piece → List ℕ
 bytes p = segment (size p) p.more (offset p)
 
 -- a verdict's number and values
-abbrev pub numbers : Verdict → Numbers
-numbers Passed = laid (refusal 0 [])
-numbers (Refused r) = laid (said r)
+abbrev pub numbers : Result (Unit {0}) Refusal → Numbers
+numbers (Ok _) = laid (refusal 0 [])
+numbers (Err r) = laid (said r)
 
 -- a stream is begun, and the same in words
 pub record Begun (limit : ℕ) (ws : List ℕ) (s : TpStream) (ws' : List ℕ) : Type 0 where
   pub stream : s ≡ stored blank (begin limit)
   pub words : ws' ≡ put ws (stored blank (begin limit))
 
--- a piece came to a stream over a buffer, and to words over another: what was said, and what C was told
-pub record CameTo (p : Piece) (s : TpStream) (buf ws other : List ℕ) (r : Came) (buf' ws' other' : List ℕ) : Type 0 where
-  pub verdict : Verdict
+-- a segment came to a stream over a buffer, and to words over another: what was said, and what C was told
+pub record Brought (seg : List ℕ) (s : TpStream) (buf ws other : List ℕ) (r : Came) (t : TpStream) (buf' ws' other' : List ℕ) : Type 0 where
+  pub verdict : Result (Unit {0}) Refusal
   pub says : r.said ≡ numbers verdict
-  pub here : Ran s (bytes p) buf (record { answer = verdict; stream = r.stream }) buf'
-  pub there : Consumes ws (bytes p) other r.told ws' other'
+  pub here : Ran s seg buf (record { answer = verdict; after = t }) buf'
+  pub there : Consumes ws seg other r.told ws' other'
 
--- the same, of which the stream after it is handed back
+-- the segment of a piece did
+abbrev pub CameTo : (p : Piece) (s : TpStream) (buf ws other : List ℕ) (r : Came) (t : TpStream) (buf' ws' other' : List ℕ) → Type 0
+CameTo p = Brought (bytes p)
+
+-- the same, whatever was said
 pub record Comes (p : Piece) (s : TpStream) (buf ws other : List ℕ) (t : TpStream) (buf' ws' other' : List ℕ) : Type 0 where
   pub came : Came
-  pub stream : came.stream ≡ t
-  pub both : CameTo p s buf ws other came buf' ws' other'
+  pub both : CameTo p s buf ws other came t buf' ws' other'
 
 -- the report is taken, of a stream and of words: what their buffers hold then
 pub record Takes (s : TpStream) (buf ws other buf' other' : List ℕ) : Type 0 where

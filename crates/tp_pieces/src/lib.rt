@@ -2,16 +2,18 @@
 // it. Where an exported function told something else, the line says so.
 #![tactic(auto)]
 
-ghost use Rattle.std.specs.Prelude.{◌+◌, ◌%◌, ◌≡◌, true, false, cond, take};
-ghost use Rattle.tp_pieces.specs.Pieces.{size as type_size, offset, bytes, numbers, Begun, CameTo, Comes, Takes};
+ghost use Rattle.std.specs.Prelude.{◌+◌, ◌%◌, ◌≡◌, true, false, cond, take, replicate};
+ghost use Rattle.tp_words.specs.Words.{size, put};
+ghost use Rattle.tp_pieces.specs.Pieces.{size as type_size, offset, bytes, numbers, Begun, Brought, CameTo, Comes, Takes};
 
-use big_endian::be32;
-use case_lines::{exported, judged};
+use case_lines::{Exported, Judged};
 use hub::answers::Answer;
 use hub::tp::{viaductle_begin, viaductle_consume, viaductle_take};
-use print::{number, text};
-use refusal::{Count, Numbers, Verdict, none, numbers_of};
+use print::out;
+use refusal::{Numbers, Refusal};
+use std::fmt;
 use tp_stream::TpStream;
+use tp_words::WORDS;
 
 // Room for a report of 64 bytes of payload.
 pub const ROOM: usize = 80;
@@ -57,17 +59,14 @@ fn low_byte(piece: Piece) -> u8
     ensures { result ≡ (offset piece + cond piece.more 1 0) % 256 }
 {
     let low = (piece.offset % 256 / 16 * 16) as u8;
-    if piece.more {
-        return low + 1;
-    }
-    low
+    if piece.more { low + 1 } else { low }
 }
 
 // How many bytes it has.
 fn size(piece: Piece) -> u8
     ensures { result ≡ type_size piece }
 {
-    if piece.length < 16 { piece.length } else { 16 }
+    piece.length.min(16)
 }
 
 // Its segment, with place for a payload of 16.
@@ -81,132 +80,148 @@ fn segment(piece: Piece) -> [u8; 36]
     s
 }
 
-// What came, in words.
-fn describe(rt: &impl Print, piece: Piece) {
-    number(rt, size(piece) as usize);
-    text(rt, b" bytes at ");
-    number(rt, piece.offset as usize);
-    if piece.more {
-        text(rt, b", more follow: ");
-    } else {
-        text(rt, b", final: ");
+// What comes, in words.
+impl fmt::Display for Piece {
+    fn fmt<W: fmt::Write>(&self, f: &mut fmt::Formatter<W>) -> fmt::Result {
+        let piece = *self;
+        let follows = if piece.more { "more follow" } else { "final" };
+        write!(f, "{} bytes at {}, {follows}", size(piece), piece.offset)
     }
 }
 
 // A verdict's number and values.
-pub fn said_of(verdict: Verdict) -> Numbers
+pub fn said_of(verdict: Result<(), Refusal>) -> Numbers
     ensures { result ≡ numbers verdict }
 {
     match verdict {
-        Verdict::Passed => none(0),
-        Verdict::Refused(refusal) => numbers_of(refusal),
+        Ok(()) => Numbers::new(0, &[]),
+        Err(refusal) => Numbers::from(refusal),
     }
 }
 
-// What is said of a segment that came, here and by the exported function, and the stream after it.
+// What is said of a segment that came, here and by the exported function.
 #[derive(Clone, Copy)]
 pub struct Came {
     pub said: Numbers,
     pub told: Answer,
-    pub stream: TpStream,
 }
 
-// One segment comes, to the stream and to the exported one.
-pub fn consumed(
-    s: TpStream,
-    buf: &mut [u8],
-    words: &mut [u32],
-    other: &mut [u8],
-    piece: Piece,
-) -> Came
-    ensures { CameTo piece s buf.old words.old other.old result buf.new words.new other.new }
-{
-    let bytes = segment(piece);
-    let n = 20 + size(piece) as usize;
-    let step = tp_stream::consume(s, &bytes[..n], buf);
-    let answer = step.answer;
-    let stream = step.stream;
-    Came {
-        said: said_of(answer),
-        told: viaductle_consume(words, &bytes[..n], other),
-        stream,
+// A stream over a buffer, and the exported one: its words, over another buffer.
+#[derive(Drop)]
+pub struct Streams<const N: usize> {
+    pub here: TpStream,
+    pub buf: [u8; N],
+    pub words: [u32; WORDS],
+    pub other: [u8; N],
+}
+
+impl<const N: usize> Streams<N> {
+    // A stream that was made by hand, and the same in words.
+    pub fn made(here: TpStream) -> Self
+        ensures stream { result.here ≡ here }
+        ensures words { result.words ≡ put (replicate size 0) here }
+    {
+        let mut words = [0; WORDS];
+        tp_words::put(&mut words, here);
+        Streams {
+            here,
+            buf: [0; N],
+            words,
+            other: [0; N],
+        }
+    }
+
+    // Both begin, in the same words; prints the limit.
+    pub fn begin(&mut self, rt: &impl Print, limit: u32)
+        ensures { Begun limit self.old.words self.new.here self.new.words }
+    {
+        out(rt, format_args!("limit {limit}; "));
+        viaductle_begin(&mut self.words, limit);
+        self.here = tp_stream::begin(limit).after;
+    }
+
+    // The same in words of zeros.
+    pub fn begun(rt: &impl Print, limit: u32) -> Self
+        ensures { Begun limit (replicate size 0) result.here result.words }
+    {
+        let mut streams = Streams {
+            here: tp_stream::begin(limit).after,
+            buf: [0; N],
+            words: [0; WORDS],
+            other: [0; N],
+        };
+        streams.begin(rt, limit);
+        streams
+    }
+
+    // One segment comes, to both.
+    pub fn brought(&mut self, segment: &[u8]) -> Came
+        ensures { Brought segment.now self.old.here self.old.buf self.old.words self.old.other result self.new.here self.new.buf self.new.words self.new.other }
+    {
+        let step = tp_stream::consume(self.here, segment, &mut self.buf);
+        self.here = step.after;
+        Came {
+            said: said_of(step.answer),
+            told: viaductle_consume(&mut self.words, segment, &mut self.other),
+        }
+    }
+
+    // The segment of a piece comes.
+    pub fn consumed(&mut self, piece: Piece) -> Came
+        ensures { CameTo piece self.old.here self.old.buf self.old.words self.old.other result self.new.here self.new.buf self.new.words self.new.other }
+    {
+        let bytes = segment(piece);
+        self.brought(&bytes[..20 + size(piece) as usize])
+    }
+
+    // The same; prints it with the answer.
+    pub fn answered(&mut self, rt: &impl Print, piece: Piece)
+        ensures { Comes piece self.old.here self.old.buf self.old.words self.old.other self.new.here self.new.buf self.new.words self.new.other }
+    {
+        let Came { said, told } = self.consumed(piece);
+        out(rt, format_args!("{piece}: {}", Judged { said, told }));
+    }
+
+    // The same, and more comes on the line.
+    pub fn comes(&mut self, rt: &impl Print, piece: Piece)
+        ensures { Comes piece self.old.here self.old.buf self.old.words self.old.other self.new.here self.new.buf self.new.words self.new.other }
+    {
+        self.answered(rt, piece);
+        out(rt, "; ");
+    }
+
+    // The message is taken; prints what it has, and ends the line.
+    pub fn taken(&mut self, rt: &impl Print)
+        ensures { Takes self.old.here self.old.buf self.old.words self.old.other self.new.buf self.new.other }
+    {
+        let answer = tp_stream::take(self.here, &mut self.buf);
+        let told = viaductle_take(&self.words, &mut self.other);
+        match answer {
+            Ok(_) => {
+                let report = tp_stream::report(self.here, &self.buf);
+                let said = Numbers::new(0, &[report.len() as u64]);
+                out(
+                    rt,
+                    format_args!(
+                        "complete, a report of {} bytes with length field {}{}\n",
+                        report.len(),
+                        length_field(report),
+                        Exported { said, told }
+                    ),
+                );
+            }
+            Err(refusal) => {
+                let said = Numbers::from(refusal);
+                out(rt, format_args!("taking: {}\n", Judged { said, told }));
+            }
+        }
     }
 }
 
-// One segment comes; prints it with the answer.
-pub fn answered(
-    rt: &impl Print,
-    s: TpStream,
-    buf: &mut [u8],
-    words: &mut [u32],
-    other: &mut [u8],
-    piece: Piece,
-) -> TpStream
-    ensures { Comes piece s buf.old words.old other.old result buf.new words.new other.new }
-{
-    describe(rt, piece);
-    let came = consumed(s, buf, words, other, piece);
-    let said = came.said;
-    let told = came.told;
-    judged(rt, said, told);
-    came.stream
-}
-
-// The same, and more comes on the line.
-pub fn comes(
-    rt: &impl Print,
-    s: TpStream,
-    buf: &mut [u8],
-    words: &mut [u32],
-    other: &mut [u8],
-    piece: Piece,
-) -> TpStream
-    ensures { Comes piece s buf.old words.old other.old result buf.new words.new other.new }
-{
-    let stream = answered(rt, s, buf, words, other, piece);
-    text(rt, b"; ");
-    stream
-}
-
-// The length field of a report, or 0 where that has no whole header.
+// The length field of a report, or 0 where that has none.
 fn length_field(report: &[u8]) -> u32 {
-    if report.len() < 16 {
-        return 0;
+    match report {
+        [_, _, _, _, a, b, c, d, ..] => u32::from_be_bytes([*a, *b, *c, *d]),
+        _ => 0,
     }
-    be32(report[4], report[5], report[6], report[7])
-}
-
-// The message is taken; prints what it has, and ends the line.
-pub fn taken(rt: &impl Print, s: TpStream, buf: &mut [u8], words: &[u32], other: &mut [u8])
-    ensures { Takes s buf.old words.now other.old buf.new other.new }
-{
-    let answer = tp_stream::take(s, buf);
-    let told = viaductle_take(words, other);
-    match answer {
-        Count::Good(_) => {
-            let report = tp_stream::report(s, buf);
-            text(rt, b"complete, a report of ");
-            number(rt, report.len());
-            text(rt, b" bytes with length field ");
-            number(rt, length_field(report) as usize);
-            exported(rt, refusal::one(0, report.len() as u64), told);
-        }
-        Count::Refused(refusal) => {
-            text(rt, b"taking: ");
-            judged(rt, numbers_of(refusal), told);
-        }
-    }
-    text(rt, b"\n");
-}
-
-// A stream begins, and the exported one; prints its limit.
-pub fn begun(rt: &impl Print, limit: u32, words: &mut [u32]) -> TpStream
-    ensures { Begun limit words.old result words.new }
-{
-    text(rt, b"limit ");
-    number(rt, limit as usize);
-    text(rt, b"; ");
-    viaductle_begin(words, limit);
-    let step = tp_stream::begin(limit);
-    step.stream
 }

@@ -1,22 +1,24 @@
 -- Laws of ranges for the loops over an array of them: one range more, and what is left. Assumes nothing.
-use Prim.Native.Nat.{ℕ, suc, ◌+◌, ◌≤◌, ◌<◌, min, max}
+use Prim.Native.Nat.{ℕ, suc, ◌+◌, ◌-◌, ◌≤◌, ◌<◌}
 use mathlib.Core.Path.{◌≡◌, refl, sym, ap, ◌∙◌}
-use mathlib.Core.Bool.{Bool, true, false, cond}
+use Rattle.std.specs.Prelude.{Some, None}
+use mathlib.Core.Bool.{Bool, true, false, not, cond}
 use mathlib.Core.List.{List, [], ◌∷◌, ◌++◌, append-nil, append_assoc}
-use native.Mathlib.Numerals.{add-one}
-use native.Mathlib.Nat.{min-eq_left, min-eq_right}
+use native.Mathlib.Numerals.{add-one, one-add}
 use native.Mathlib.Omega.{arith}
-use borrow.Author.Tests.{lt-ltb, le-ltb, leb-true, leb-false}
-use lib.ListN.{length, take, drop, get_or, set, length-append, length-take, length-drop, drop_of_length-le, take-append-drop}
-use lib.Dec.{ltb, leb}
-use lib.Seq.{take-suc, drop-cons, slice_empty, slice-cons, take_all, take-take, drop-drop, length-take-le, take-append_seam, drop-append-add, append_snoc, set-append_seam, set_at}
+use borrow.Author.Tests.{lt-ltb, le-ltb}
+use lib.ListN.{length, take, drop, get_or, set, length-append, length-take, length-drop, drop_of_length-le}
+use lib.Dec.{ltb}
+use lib.Seq.{take-suc, drop-cons, slice-cons, take_all, take-take, drop-drop, length-take-le, take-append_seam, drop-append-add, append_snoc, set-append_seam, set_at}
+use Rattle.std.specs.List.{position_or_len, copy_within}
+use Rattle.std.proofs.lemmas.List.{drop-take}
+use Rattle.std.proofs.lemmas.List.Sums.{prefix_len-le-length}
 use Rattle.tp_machine.specs.declared.TpRange.{TpRange}
-use Rattle.tp_machine.specs.Ranges.{any, touch, hull_of, unless, keep, grow_if, grow, inserted, joined, some_touch, greatest_end}
+use Rattle.tp_machine.specs.Ranges.{touch, hull_of, unless, keep, grow_if, grow, inserted, joined}
 use Rattle.tp_machine.specs.Machine.{most}
 use Rattle.tp_machine.proofs.Lists.{length_moved}
 use Rattle.tp_machine.proofs.Joining.{inserted_moved, keep_append, grow_append}
 use Rattle.tp_range.specs.Joining.{none, placed, fitted, joined_in}
-use Rattle.tp_range.specs.Inserting.{place}
 
 -- ---- one range more at the end
 keep_snoc : (n : TpRange) (xs : List TpRange) (r : TpRange) → keep n (xs ++ (r ∷ [])) ≡ keep n xs ++ unless (touch n r) r []
@@ -68,98 +70,29 @@ pub placed_over : (array rs : List TpRange) → length rs ≤ length array → p
 unfolding placed
 placed_over array rs h = take_all (length array) (over rs array) (omega (arith, over_length rs array h))
 
--- a count past the array's end means all of it
-pub take_places : (array : List TpRange) (count : ℕ) → length array ≡ most → take (min count most) array ≡ take count array
-take_places array count l = go (leb count most) refl
-  where
-    go : (b : Bool) → leb count most ≡ b → take (min count most) array ≡ take count array
-    go true e = ap (λ (n : ℕ). take n array) (min-eq_left (leb-true count most e))
-    go false e =
-        let h : most ≤ count = omega (arith, leb-false count most e) in
-        ap (λ (n : ℕ). take n array) (min-eq_right h) ∙ take_all most array (omega arith) ∙ sym (take_all count array (omega arith))
-
--- the greatest end of what is held, before the first of them
-pub greatest_start : (array : List TpRange) (count held : ℕ) → length array ≡ most → held ≡ min count most → max 0 (greatest_end (take held array)) ≡ greatest_end (take count array)
-greatest_start array count held l e =
-    let all : greatest_end (take held array) ≡ greatest_end (take count array) = ap greatest_end (ap (λ (n : ℕ). take n array) e ∙ take_places array count l) in
-    omega (arith, all)
-
 -- ---- what is left of the first n from i on
 module _ (rs : List TpRange) (i n : ℕ) (d : TpRange) (h : i < n) (k : n ≤ length rs) where
   pub front : drop i (take n rs) ≡ get_or rs i d ∷ drop (i + 1) (take n rs)
   front = rw add-one (slice-cons i n rs d h k)
-
-  -- a test of each: one passes here, or none does and the rest tells
-  pub any_hit : (f : TpRange → Bool) → f (get_or rs i d) ≡ true → any f (drop i (take n rs)) ≡ true
-  unfolding any
-  any_hit f e = rw (front, e)
-
-  pub any_miss : (f : TpRange → Bool) → f (get_or rs i d) ≡ false → any f (drop (i + 1) (take n rs)) ≡ any f (drop i (take n rs))
-  unfolding any
-  any_miss f e = rw (front, e)
-
-  pub touch_hit : any (touch (get_or rs i d)) (drop (i + 1) (take n rs)) ≡ true → some_touch (drop i (take n rs)) ≡ true
-  unfolding some_touch
-  touch_hit e = rw (front, e)
-
-  pub touch_miss : any (touch (get_or rs i d)) (drop (i + 1) (take n rs)) ≡ false → some_touch (drop (i + 1) (take n rs)) ≡ some_touch (drop i (take n rs))
-  unfolding some_touch
-  touch_miss e = rw (front, e)
-
-  -- the greatest end so far is x, and with this one y
-  pub greatest_next : (x y : ℕ) → y ≡ max x (get_or rs i d).end → max y (greatest_end (drop (i + 1) (take n rs))) ≡ max x (greatest_end (drop i (take n rs)))
-  unfolding greatest_end
-  greatest_next x y e = rw (front, e) (omega arith)
-
-  -- how many stand before the first that begins behind x: i here, or one more than these
-  pub place_here : (x : ℕ) → x < (get_or rs i d).start → i + place x (drop i (take n rs)) ≡ i
-  unfolding place
-  place_here x e = rw (front, lt-ltb x (get_or rs i d).start e) (omega arith)
-
-  pub place_next : (x : ℕ) → (get_or rs i d).start ≤ x → i + 1 + place x (drop (i + 1) (take n rs)) ≡ i + place x (drop i (take n rs))
-  unfolding place
-  place_next x e = rw (front, le-ltb x (get_or rs i d).start e) (omega arith)
 
 pub past_end : (rs : List TpRange) (i n : ℕ) → n ≤ i → drop i (take n rs) ≡ []
 past_end rs i n h =
     let k : length (take n rs) ≤ i = simp length-take (omega arith) in
     drop_of_length-le (take n rs) k
 
-pub any_end : (f : TpRange → Bool) (rs : List TpRange) (i n : ℕ) → n ≤ i → any f (drop i (take n rs)) ≡ false
-unfolding any
-any_end f rs i n h = rw (past_end rs i n h)
-
-pub place_end : (x : ℕ) (rs : List TpRange) (i n : ℕ) → n ≤ i → i + place x (drop i (take n rs)) ≡ i
-unfolding place
-place_end x rs i n h = rw (past_end rs i n h) (omega arith)
-
-pub touch_end : (rs : List TpRange) (i n : ℕ) → n ≤ i → some_touch (drop i (take n rs)) ≡ false
-unfolding some_touch
-touch_end rs i n h = rw (past_end rs i n h)
-
-pub greatest_done : (x : ℕ) (rs : List TpRange) (i n : ℕ) → n ≤ i → max x (greatest_end (drop i (take n rs))) ≡ x
-unfolding greatest_end
-greatest_done x rs i n h = rw (past_end rs i n h) (omega arith)
-
--- ---- where a range is put among others
-pub place_upto : (x : ℕ) (rs : List TpRange) → place x rs ≤ length rs
-unfolding place
-place_upto x [] = omega arith
-place_upto x (r ∷ rs) = go (ltb x r.start) (place_upto x rs)
-  where
-    go : (t : Bool) → place x rs ≤ length rs → cond t 0 (suc (place x rs)) ≤ suc (length rs)
-    go true h = omega arith
-    go false h = omega arith
+-- ---- where a range is put among others: how many stand before the first that begins behind x
+abbrev pub place : ℕ → List TpRange → ℕ
+place x rs = position_or_len (λ r. ltb x r.start) rs
 
 inserted_place : (g : TpRange) (rs : List TpRange) → inserted g rs ≡ take (place g.start rs) rs ++ (g ∷ drop (place g.start rs) rs)
-unfolding inserted place
+unfolding inserted
 inserted_place g [] = refl
 inserted_place g (r ∷ rs) = go (ltb g.start r.start) (inserted_place g rs)
   where
     go : (t : Bool) → inserted g rs ≡ take (place g.start rs) rs ++ (g ∷ drop (place g.start rs) rs)
-        → cond t (g ∷ r ∷ rs) (r ∷ inserted g rs) ≡ take (cond t 0 (suc (place g.start rs))) (r ∷ rs) ++ (g ∷ drop (cond t 0 (suc (place g.start rs))) (r ∷ rs))
+        → cond t (g ∷ r ∷ rs) (r ∷ inserted g rs) ≡ take (cond (not t) (1 + place g.start rs) 0) (r ∷ rs) ++ (g ∷ drop (cond (not t) (1 + place g.start rs) 0) (r ∷ rs))
     go true later = refl
-    go false later = ap (λ (l : List TpRange). r ∷ l) later
+    go false later = rw one-add (ap (λ (l : List TpRange). r ∷ l) later)
 
 inserted_length : (g : TpRange) (rs : List TpRange) → length (inserted g rs) ≡ length rs + 1
 inserted_length g rs = sym (length_moved (inserted_moved g rs)) ∙ sym (add-one (length rs))
@@ -168,83 +101,68 @@ inserted_length g rs = sym (length_moved (inserted_moved g rs)) ∙ sym (add-one
 abbrev pub moved : (array : List TpRange) (count i : ℕ) → List TpRange
 moved array count i = take (i + 1) array ++ (drop i (take count array) ++ drop (count + 1) array)
 
-module _ (array : List TpRange) (count : ℕ) where
-  pub moved_none : array ≡ moved array count count
-  moved_none = sym (take-append-drop (count + 1) array) ∙ ap (λ (l : List TpRange). take (count + 1) array ++ (l ++ drop (count + 1) array)) (sym (slice_empty count array))
+module _ (array : List TpRange) (count : ℕ) (few : count < length array) where
+  pub copied : (i : ℕ) → i ≤ count → copy_within array i count (i + 1) ≡ moved array count i
+  copied i h =
+      let up : i + (count - i) ≡ count = omega arith in
+      let behind : i + 1 + (count - i) ≡ count + 1 = omega arith in
+      append_assoc (take (i + 1) array) (take (count - i) (drop i array)) (drop (i + 1 + (count - i)) array)
+      ∙ (λ j. take (i + 1) array ++ (sym (drop-take i (count - i) array) j ++ drop (behind j) array))
+      ∙ ap (λ (n : ℕ). take (i + 1) array ++ (drop i (take n array) ++ drop (count + 1) array)) up
 
-  module _ (few : count < length array) where
-    -- a store at the i-th
-    stored : (i : ℕ) (a : TpRange) (rest : List TpRange) → i < length array → set (take (i + 1) array ++ rest) i a ≡ take i array ++ (a ∷ rest)
-    stored i a rest h =
-        ap (λ (l : List TpRange). set (l ++ rest) i a) (ap (λ (k : ℕ). take k array) (add-one i) ∙ take-suc array i none h)
-        ∙ ap (λ (l : List TpRange). set l i a) (append_snoc (take i array) (get_or array i none) rest)
-        ∙ set_at (take i array) (get_or array i none) rest a i (length-take-le i array (omega arith))
+  -- a store at the i-th
+  stored : (i : ℕ) (a : TpRange) (rest : List TpRange) → i < length array → set (take (i + 1) array ++ rest) i a ≡ take i array ++ (a ∷ rest)
+  stored i a rest h =
+      ap (λ (l : List TpRange). set (l ++ rest) i a) (ap (λ (k : ℕ). take k array) (add-one i) ∙ take-suc array i none h)
+      ∙ ap (λ (l : List TpRange). set l i a) (append_snoc (take i array) (get_or array i none) rest)
+      ∙ set_at (take i array) (get_or array i none) rest a i (length-take-le i array (omega arith))
 
-    pub moved_one : (i : ℕ) → i < count → set (moved array count (i + 1)) (i + 1) (get_or array i none) ≡ moved array count i
-    moved_one i h =
-        stored (i + 1) (get_or array i none) (drop (i + 1) (take count array) ++ drop (count + 1) array) (omega arith)
-        ∙ ap (λ (l : List TpRange). take (i + 1) array ++ (l ++ drop (count + 1) array)) (sym (front array i count none h (omega arith)))
-
-    -- and a range in its place
-    pub moved_in : (g : TpRange) (i : ℕ) → i ≡ place g.start (take count array) → set (moved array count i) i g ≡ placed array (inserted g (take count array))
-    moved_in g i is =
-        let all : length (take count array) ≡ count = length-take-le count array (omega arith) in
-        let low : i ≤ count = omega (arith, is, all, place_upto g.start (take count array)) in
-        let long : length (inserted g (take count array)) ≡ count + 1 = inserted_length g (take count array) ∙ ap (λ (k : ℕ). k + 1) all in
-        let parts : inserted g (take count array) ≡ take i array ++ (g ∷ drop i (take count array)) =
-        inserted_place g (take count array) ∙ ap (λ (k : ℕ). take k (take count array) ++ (g ∷ drop k (take count array))) (sym is) ∙ ap (λ (l : List TpRange). l ++ (g ∷ drop i (take count array))) (take-take i count array low) in
-        stored i g (drop i (take count array) ++ drop (count + 1) array) (omega arith)
-        ∙ sym (append_assoc (take i array) (g ∷ drop i (take count array)) (drop (count + 1) array))
-        ∙ sym (placed_over array (inserted g (take count array)) (omega (arith, long)) ∙ ap (λ (k : ℕ). inserted g (take count array) ++ drop k array) long ∙ ap (λ (l : List TpRange). l ++ drop (count + 1) array) parts)
-
--- ---- the end of joining: the grown range goes among those that are kept, where there is a place
-module _ (array : List TpRange) (count : ℕ) (long : length array ≡ most) where
-  fitted_in : (rs : List TpRange) → length rs ≤ most → record { full = false; ranges = over rs array; count = length rs } ≡ fitted array count rs
-  fitted_in rs h = rw (le-ltb most (length rs) h) (λ i. record { full = false; ranges = sym (placed_over array rs (omega arith)) i; count = length rs })
-
-  fitted_out : (rs : List TpRange) → most < length rs → record { full = true; ranges = array; count = count } ≡ fitted array count rs
-  fitted_out rs h = rw (lt-ltb most (length rs) h)
-
-  module _ (new : TpRange) where
-    abbrev pub keeps : List TpRange
-    keeps = keep new (take (min count most) array)
-
-    abbrev pub grows : TpRange
-    grows = grow new new (take (min count most) array)
-
-    abbrev all : List TpRange
-    all = inserted grows keeps
-
-    all_joined : all ≡ joined new (take count array)
-    unfolding joined
-    all_joined = ap (joined new) (take_places array count long)
-
-    all_count : length all ≡ length keeps + 1
-    all_count = inserted_length grows keeps
-
-    -- put into the array over which those that are kept are laid
-    put_in : length keeps < most → placed (over keeps array) (inserted grows (take (length keeps) (over keeps array))) ≡ over all array
-    put_in h =
-        ap (λ (l : List TpRange). placed (over keeps array) (inserted grows l)) (take-append_seam keeps (drop (length keeps) array))
-        ∙ placed_over (over keeps array) all (omega (arith, all_count, over_length keeps array (omega arith)))
-        ∙ ap (λ (l : List TpRange). all ++ l) (over_behind keeps array all all_count)
-
-    pub joined_room : length keeps < most
-        → record { full = false; ranges = placed (over keeps array) (inserted grows (take (length keeps) (over keeps array))); count = length keeps + 1 } ≡ joined_in array count new
-    unfolding joined_in
-    joined_room h = (λ i. record { full = false; ranges = put_in (omega arith) i; count = sym all_count i }) ∙ fitted_in all (omega (arith, all_count)) ∙ ap (fitted array count) all_joined
-
-    pub joined_full : most ≤ length keeps → record { full = true; ranges = array; count = count } ≡ joined_in array count new
-    unfolding joined_in
-    joined_full h = fitted_out all (omega (arith, all_count)) ∙ ap (fitted array count) all_joined
+  -- and a range in its place
+  pub moved_in : (g : TpRange) (i : ℕ) → i ≡ place g.start (take count array) → set (moved array count i) i g ≡ placed array (inserted g (take count array))
+  moved_in g i is =
+      let all : length (take count array) ≡ count = length-take-le count array (omega arith) in
+      let low : i ≤ count = omega (arith, is, all, prefix_len-le-length (λ r. not (ltb g.start r.start)) (take count array)) in
+      let long : length (inserted g (take count array)) ≡ count + 1 = inserted_length g (take count array) ∙ ap (λ (k : ℕ). k + 1) all in
+      let parts : inserted g (take count array) ≡ take i array ++ (g ∷ drop i (take count array)) =
+      inserted_place g (take count array) ∙ ap (λ (k : ℕ). take k (take count array) ++ (g ∷ drop k (take count array))) (sym is) ∙ ap (λ (l : List TpRange). l ++ (g ∷ drop i (take count array))) (take-take i count array low) in
+      stored i g (drop i (take count array) ++ drop (count + 1) array) (omega arith)
+      ∙ sym (append_assoc (take i array) (g ∷ drop i (take count array)) (drop (count + 1) array))
+      ∙ sym (placed_over array (inserted g (take count array)) (omega (arith, long)) ∙ ap (λ (k : ℕ). inserted g (take count array) ++ drop k array) long ∙ ap (λ (l : List TpRange). l ++ drop (count + 1) array) parts)
 
 -- what joining gives, by whether there is a place
-pub fitted_full : (array : List TpRange) (count : ℕ) (rs : List TpRange) → (fitted array count rs).full ≡ ltb most (length rs)
-fitted_full array count rs = go (ltb most (length rs)) refl
-  where
-    go : (b : Bool) → ltb most (length rs) ≡ b → (fitted array count rs).full ≡ b
-    go true e = rw e
-    go false e = rw e
+pub fitted_none : (array rs : List TpRange) → ltb most (length rs) ≡ true → fitted array rs ≡ None
+fitted_none array rs e = rw e
 
-pub fitted_placed : (array : List TpRange) (count : ℕ) (rs : List TpRange) → ltb most (length rs) ≡ false → fitted array count rs ≡ record { full = false; ranges = placed array rs; count = length rs }
-fitted_placed array count rs e = rw e
+pub fitted_placed : (array rs : List TpRange) → ltb most (length rs) ≡ false → fitted array rs ≡ Some (record { ranges = placed array rs; count = length rs })
+fitted_placed array rs e = rw e
+
+-- ---- the end of joining: the grown range goes among those that are kept, where there is a place
+module _ (array : List TpRange) (count : ℕ) (long : length array ≡ most) (new : TpRange) where
+  abbrev pub keeps : List TpRange
+  keeps = keep new (take count array)
+
+  abbrev pub grows : TpRange
+  grows = grow new new (take count array)
+
+  abbrev all : List TpRange
+  all = inserted grows keeps
+
+  all_count : length all ≡ length keeps + 1
+  all_count = inserted_length grows keeps
+
+  -- put into the array over which those that are kept are laid
+  put_in : length keeps < most → placed (over keeps array) (inserted grows (take (length keeps) (over keeps array))) ≡ placed array all
+  put_in h =
+      ap (λ (l : List TpRange). placed (over keeps array) (inserted grows l)) (take-append_seam keeps (drop (length keeps) array))
+      ∙ placed_over (over keeps array) all (omega (arith, all_count, over_length keeps array (omega arith)))
+      ∙ ap (λ (l : List TpRange). all ++ l) (over_behind keeps array all all_count)
+      ∙ sym (placed_over array all (omega (arith, all_count)))
+
+  pub joined_room : length keeps < most
+      → Some (record { ranges = placed (over keeps array) (inserted grows (take (length keeps) (over keeps array))); count = length keeps + 1 }) ≡ joined_in array count new
+  unfolding joined_in joined
+  joined_room h = (λ i. Some (record { ranges = put_in h i; count = sym all_count i })) ∙ sym (fitted_placed array all (le-ltb most (length all) (omega (arith, all_count))))
+
+  pub joined_full : most ≤ length keeps → None ≡ joined_in array count new
+  unfolding joined_in joined
+  joined_full h = sym (fitted_none array all (lt-ltb most (length all) (omega (arith, all_count))))

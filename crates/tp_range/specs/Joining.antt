@@ -1,5 +1,5 @@
 -- The joining step over an array whose first places are held. Assumes nothing: these are definitions.
-use Rattle.std.specs.Prelude.{ℕ, true, false, cond, List, ◌++◌, length, take, drop, ltb}
+use Rattle.std.specs.Prelude.{ℕ, cond, Option, Some, None, List, ◌++◌, length, take, drop, ltb}
 use Rattle.tp_machine.specs.declared.TpRange.{TpRange}
 use Rattle.tp_machine.specs.Ranges.{joined}
 use Rattle.tp_machine.specs.Machine.{most}
@@ -13,10 +13,10 @@ none = record { start = 0; end = 0; number = 0 }
 unfoldable pub placed : List TpRange → List TpRange → List TpRange
 placed array rs = take (length array) (rs ++ drop (length rs) array)
 
--- rs placed, or all as it was where rs are too many
-abbrev pub fitted : List TpRange → ℕ → List TpRange → Joined
-fitted array count rs = cond (ltb most (length rs)) (record { full = true; ranges = array; count = count }) (record { full = false; ranges = placed array rs; count = length rs })
+-- rs placed, where they are not too many
+abbrev pub fitted : List TpRange → List TpRange → Option Joined
+fitted array rs = cond (ltb most (length rs)) None (Some (record { ranges = placed array rs; count = length rs }))
 
 -- `new` joined to the first `count` of the array
-unfoldable pub joined_in : List TpRange → ℕ → TpRange → Joined
-joined_in array count new = fitted array count (joined new (take count array))
+unfoldable pub joined_in : List TpRange → ℕ → TpRange → Option Joined
+joined_in array count new = fitted array (joined new (take count array))

@@ -2,11 +2,11 @@
 // `count` are held. (tp_range.rs)
 #![tactic(auto)]
 
-ghost use Rattle.std.specs.Prelude.{◌≡◌, ◌≤◌, ◌<◌, min, max, take};
+ghost use Rattle.std.specs.Prelude.{◌≡◌, ◌≤◌, ◌<◌, length, take, ltb};
+ghost use Rattle.std.specs.List.{position_or_len};
 ghost use Rattle.tp_machine.specs.Ranges.{touch, hull_of, inserted, some_touch, greatest_end};
 ghost use Rattle.tp_machine.specs.Machine.{most};
 ghost use Rattle.tp_range.specs.Joining.{placed, joined_in};
-ghost use Rattle.tp_range.specs.Inserting.{place};
 ghost use Rattle.tp_range.specs.Ordered.{rising, backward};
 
 use tp_machine::TpRange;
@@ -21,186 +21,129 @@ pub const UNUSED: TpRange = TpRange {
     number: 0,
 };
 
-// What joining gives: the new array and how many it holds; or, where they would be too many, all as it was.
+// What joining gives: the new array and how many it holds. An array by value, in and out: the rules' paper names this form.
 #[derive(Clone, Copy)]
 pub struct Joined {
-    pub full: bool,
     pub ranges: [TpRange; MAX_RANGES],
     pub count: usize,
 }
 
+// Those of an array that are held: a count past its end means all of them.
+pub fn held(ranges: &[TpRange; MAX_RANGES], count: usize) -> &[TpRange]
+    ensures { result.now ≡ take count ranges.now }
+{
+    &ranges[..count.min(MAX_RANGES)]
+}
+
 // Whether neither ends before the other begins.
+#[tactic(auto, unfolding(tp_machine::specs::Ranges::touch))]
 fn touches(a: TpRange, b: TpRange) -> bool
     ensures { result ≡ touch a b }
 {
     a.start <= b.end && b.start <= a.end
 }
 
-// The smaller of two.
-pub fn least(x: u32, y: u32) -> u32
-    ensures { result ≡ min x y }
-{
-    if x < y { x } else { y }
-}
-
-// The greater of two.
-pub fn greatest(x: u32, y: u32) -> u32
-    ensures { result ≡ max x y }
-{
-    if x < y { y } else { x }
-}
-
 // The least range that holds both, with the larger number.
+#[tactic(auto, unfolding(tp_machine::specs::Ranges::hull_of))]
 fn hull(a: TpRange, b: TpRange) -> TpRange
     ensures { result ≡ hull_of a b }
 {
     TpRange {
-        start: least(a.start, b.start),
-        end: greatest(a.end, b.end),
-        number: greatest(a.number, b.number),
+        start: a.start.min(b.start),
+        end: a.end.max(b.end),
+        number: a.number.max(b.number),
     }
 }
 
-// How many places of an array are held: a count past its end means all of them.
-fn places(count: usize) -> usize
-    ensures { result ≡ min count most }
+// How many stand before the first that begins behind `start`.
+fn place_of(held: &[TpRange], start: u32) -> usize
+    ensures first { result ≡ position_or_len (λ r. ltb start r.start) held.now }
+    ensures among { result ≤ length held.now }
 {
-    if count < MAX_RANGES {
-        count
-    } else {
-        MAX_RANGES
-    }
-}
-
-// How many of the first `count` stand before the first of them that begins behind `start`.
-fn place_of(ranges: [TpRange; MAX_RANGES], count: usize, start: u32) -> usize
-    requires { count ≤ most }
-    ensures { result ≡ place start (take count ranges) }
-{
-    let mut i: usize = 0;
-    while i < count {
-        let r = ranges[i];
-        if start < r.start {
-            return i;
-        }
-        i += 1;
-    }
-    count
+    held.iter()
+        .position(|r| start < r.start)
+        .unwrap_or(held.len())
 }
 
 // `new` before the first of the first `count` that begins behind it, and those from there on one place further.
-fn insert(ranges: [TpRange; MAX_RANGES], count: usize, new: TpRange) -> [TpRange; MAX_RANGES]
+fn insert(mut ranges: [TpRange; MAX_RANGES], count: usize, new: TpRange) -> [TpRange; MAX_RANGES]
     requires { count < most }
     ensures { result ≡ placed ranges (inserted new (take count ranges)) }
 {
-    let at = place_of(ranges, count, new.start);
-    let mut out = ranges;
-    let mut i = count;
-    while at < i {
-        i -= 1;
-        out[i + 1] = ranges[i];
-    }
-    out[at] = new;
-    out
+    let at = place_of(held(&ranges, count), new.start);
+    ranges.copy_within(at..count, at + 1);
+    ranges[at] = new;
+    ranges
 }
 
 // The joining step: the ranges that `new` does not touch, in their order, and before the first of them that begins behind it `new` grown by those
-// that it touches. The places behind them stay as they were.
-pub fn join(ranges: [TpRange; MAX_RANGES], count: usize, new: TpRange) -> Joined
+// that it touches. The places behind them stay as they were. `None` where they would be too many.
+pub fn join(ranges: [TpRange; MAX_RANGES], count: usize, new: TpRange) -> Option<Joined>
     ensures { result ≡ joined_in ranges count new }
 {
-    let held = places(count);
     let mut out = ranges;
-    let mut kept: usize = 0;
+    let mut kept = 0;
     let mut grown = new;
-    let mut i: usize = 0;
-    while i < held {
-        let r = ranges[i];
-        i += 1;
-        if touches(new, r) {
-            grown = hull(grown, r);
+    for r in held(&ranges, count) {
+        if touches(new, *r) {
+            grown = hull(grown, *r);
         } else {
-            out[kept] = r;
+            out[kept] = *r;
             kept += 1;
         }
     }
-    if kept < MAX_RANGES {
-        return Joined {
-            full: false,
-            ranges: insert(out, kept, grown),
-            count: kept + 1,
-        };
+    if MAX_RANGES <= kept {
+        return None;
     }
-    Joined {
-        full: true,
-        ranges,
-        count,
-    }
+    Some(Joined {
+        ranges: insert(out, kept, grown),
+        count: kept + 1,
+    })
 }
 
-// Whether each of the first `count` begins behind the end of the one before it, and none ends before it begins: then no two touch.
-fn in_order(ranges: [TpRange; MAX_RANGES], count: usize) -> bool
-    requires { count ≤ most }
-    ensures { result ≡ rising backward 0 (take count ranges) }
+// Whether each begins behind the end of the one before it, and none ends before it begins: then no two touch.
+#[tactic(auto, using(crate::proofs::FoldLaws::ahead), unfolding(crate::specs::Ordered::rising))]
+fn in_order(held: &[TpRange]) -> bool
+    ensures { result ≡ rising backward 0 held.now }
 {
-    let mut low: usize = 0;
-    let mut i: usize = 0;
-    while i < count {
-        let r = ranges[i];
-        i += 1;
-        if (r.start as usize) < low {
+    let mut low = 0;
+    for r in held {
+        if u64::from(r.start) < low || r.end < r.start {
             return false;
         }
-        if r.end < r.start {
-            return false;
-        }
-        low = r.end as usize + 1;
+        low = u64::from(r.end) + 1;
     }
     true
 }
 
-// Whether two of the first `count` touch, in whatever order they stand: each is tried with those behind it.
-fn two_touch(ranges: [TpRange; MAX_RANGES], count: usize) -> bool
-    requires { count ≤ most }
-    ensures { result ≡ some_touch (take count ranges) }
+// Whether two touch, in whatever order they stand: each is tried with those behind it.
+#[tactic(auto, using(crate::proofs::FoldLaws::any_is), unfolding(tp_machine::specs::Ranges::some_touch))]
+fn two_touch(held: &[TpRange]) -> bool
+    ensures { result ≡ some_touch held.now }
 {
-    let mut i: usize = 0;
-    while i < count {
-        let r = ranges[i];
-        i += 1;
-        let mut j = i;
-        while j < count {
-            if touches(r, ranges[j]) {
-                return true;
-            }
-            j += 1;
+    let mut left = held;
+    // taken off the front one by one, since each is tried with what is left
+    while let Some((r, behind)) = left.split_first() {
+        if behind.iter().any(|other| touches(*r, *other)) {
+            return true;
         }
+        left = behind;
     }
     false
 }
 
-// Whether two of the first `count` touch. Of ranges in order, as joining keeps them, one pass tells.
-pub fn some_touch(ranges: [TpRange; MAX_RANGES], count: usize) -> bool
-    ensures { result ≡ some_touch (take count ranges) }
+// Whether two touch. Of ranges in order, as joining keeps them, one pass tells.
+#[tactic(auto, using(crate::proofs::OrderLaws::rising_apart))]
+pub fn some_touch(held: &[TpRange]) -> bool
+    ensures { result ≡ some_touch held.now }
 {
-    let held = places(count);
-    if in_order(ranges, held) {
-        return false;
-    }
-    two_touch(ranges, held)
+    !in_order(held) && two_touch(held)
 }
 
-// The greatest end of the first `count`; 0 of none.
-pub fn greatest_end(ranges: [TpRange; MAX_RANGES], count: usize) -> u32
-    ensures { result ≡ greatest_end (take count ranges) }
+// The greatest end; 0 of none.
+#[tactic(auto, using(crate::proofs::FoldLaws::greatest_is))]
+pub fn greatest_end(held: &[TpRange]) -> u32
+    ensures { result ≡ greatest_end held.now }
 {
-    let held = places(count);
-    let mut end: u32 = 0;
-    let mut i: usize = 0;
-    while i < held {
-        let r = ranges[i];
-        i += 1;
-        end = greatest(end, r.end);
-    }
-    end
+    held.iter().fold(0, |end, r| end.max(r.end))
 }

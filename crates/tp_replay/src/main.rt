@@ -3,9 +3,8 @@
 // compared: the answer, the ranges, the end, the report, and how many segments were accepted.
 #![tactic(auto)]
 
-use intake::fill;
-use print::{line, text};
-use replay::{earlier, open_first};
+use print::out;
+use replay::{open_first, records, replay_all};
 use std::io::Read;
 use tp_words::WORDS;
 
@@ -13,75 +12,28 @@ mod state; // state.rt: whether a stream is as recorded
 mod step; // step.rt: one record
 mod tally; // tally.rt: what agreed, counted and printed
 
-// The next record of the file: whether all agrees; it is counted if so.
-fn next_agrees(
-    from: &mut impl Read,
-    record: &mut [u8],
-    words: &mut [u32],
-    buffer: &mut [u8],
-    counts: &mut [u32],
-) -> bool {
-    let n = replay::next_record(from, record);
-    let bytes = &record[..n];
-    step::begun(bytes, words);
-    // 16 plus the limit of the buffer's bytes are lent.
-    let limit = state::word(words, 0) as usize;
-    let lent = (16 + limit).min(buffer.len());
-    let agrees = step::agrees(bytes, words, &mut buffer[..lent]);
-    if agrees {
-        tally::add(bytes, counts);
-    }
-    agrees
-}
-
-// All records of the file; answers which is the first that does not agree, counted from 1, or 0.
-fn replay_all(
-    from: &mut impl Read,
-    total: u32,
-    record: &mut [u8],
-    words: &mut [u32],
-    buffer: &mut [u8],
-    counts: &mut [u32],
-) -> u32 {
-    let mut first: u32 = 0;
-    let mut i: u32 = 0;
-    while i < total {
-        let agrees = next_agrees(from, record, words, buffer, counts);
-        i += 1;
-        first = earlier(first, agrees, i);
-    }
-    first
-}
-
 // Replays a file that is open, and prints what came of it.
 fn report(rt: &impl Print, from: &mut impl Read) {
-    let mut name = [0u8; 8];
-    fill(from, &mut name);
-    if name != *b"VIADTP01" {
-        text(rt, b"not a list of recorded segments\n");
+    let Some(total) = records(from, *b"VIADTP01") else {
+        out(rt, "not a list of recorded segments\n");
         return;
-    }
-    let mut head = [0u8; 8];
-    fill(from, &mut head);
-    let total = replay::number(&head, 0);
-    line(rt, b"records", total);
-    let mut record = [0u8; 2048];
-    let mut words = [0u32; WORDS];
-    let mut buffer = [0u8; 4112];
-    let mut counts = [0u32; tally::PLACES];
-    let first = replay_all(
-        from,
-        total,
-        &mut record,
-        &mut words,
-        &mut buffer,
-        &mut counts,
-    );
+    };
+    out(rt, format_args!("records: {total}\n"));
+    let mut record = [0; 2048];
+    let mut words = [0; WORDS];
+    let mut buffer = [0; 4112];
+    let mut counts = [0; tally::PLACES];
+    let first = replay_all(from, total, &mut record, |record| {
+        let agrees = step::agrees(record, &mut words, &mut buffer);
+        if agrees {
+            tally::add(record, &mut counts);
+        }
+        agrees
+    });
     tally::print(rt, &counts);
-    if first == 0 {
-        text(rt, b"none that does not\n");
-    } else {
-        line(rt, b"the first that does not is record", first);
+    match first {
+        Some(n) => out(rt, format_args!("the first that does not is record: {n}\n")),
+        None => out(rt, "none that does not\n"),
     }
 }
 

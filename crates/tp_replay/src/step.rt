@@ -5,55 +5,63 @@ use hub::tp::{viaductle_begin, viaductle_clear, viaductle_consume};
 use replay::{argument, byte, input, recorded, same};
 use tp_stream::LAST_NUMBER;
 
-// The kinds of records.
-pub(crate) const BEGIN: u8 = 16;
+// What a record does: a stream begins, a segment comes, or the stream is cleared.
+#[derive(Clone, Copy)]
+pub(crate) enum Kind {
+    Begin = 16,
+    Segment = 17,
+    Clear = 18,
+}
 
-pub(crate) const SEGMENT: u8 = 17;
+impl TryFrom<u8> for Kind {
+    type Error = ();
 
-pub(crate) const CLEAR: u8 = 18;
+    fn try_from(code: u8) -> Result<Kind, ()> {
+        match code {
+            16 => Ok(Kind::Begin),
+            17 => Ok(Kind::Segment),
+            18 => Ok(Kind::Clear),
+            _ => Err(()),
+        }
+    }
+}
 
 // Whether an answer is the recorded one.
 fn told(record: &[u8], answer: Answer) -> bool {
-    let values = answer.values;
-    same(recorded(record), answer.number, values)
+    same(recorded(record), answer.number, answer.values)
 }
 
-// Where a record begins a stream, the words hold it.
-pub(crate) fn begun(record: &[u8], words: &mut [u32]) {
-    if byte(record, 0) == BEGIN {
-        viaductle_begin(words, argument(record, 0));
-    }
+// The part of a buffer that is lent to a stream: 16 bytes and its limit, as far as there are so many.
+fn lent<'a>(words: &[u32], buffer: &'a mut [u8]) -> &'a mut [u8] {
+    let size = (16 + state::word(words, 0) as usize).min(buffer.len());
+    &mut buffer[..size]
 }
 
-// A stream has begun, a segment comes, or the stream is cleared.
-fn answered(record: &[u8], words: &mut [u32], buffer: &mut [u8]) -> bool {
-    let kind = byte(record, 0);
-    match kind {
-        BEGIN => told(record, viaductle_begin(words, argument(record, 0))),
-        SEGMENT => told(record, viaductle_consume(words, input(record), buffer)),
-        CLEAR => told(record, viaductle_clear(words)),
-        _ => false,
-    }
-}
-
-// How many segments a stream has accepted after a record, where before it had so many: one more if this one was, none if it begins or is cleared.
+// How many segments a stream has accepted after one that has this record, where before it had so many: one more if this one was.
 fn counted(record: &[u8], before: u64) -> u64 {
-    if byte(record, 0) != SEGMENT {
-        return 0;
-    }
-    if byte(record, 2) != 0 {
+    if byte(record, 2) != 0 || LAST_NUMBER as u64 <= before {
         return before;
     }
-    if before < LAST_NUMBER as u64 {
-        return before + 1;
-    }
-    before
+    before + 1
 }
 
-// One record replayed: its answer, the stream after it, and how many segments that has accepted.
+// One record replayed: its answer, the stream after it, and how many segments that has accepted, which are none where it begins or is cleared.
 pub(crate) fn agrees(record: &[u8], words: &mut [u32], buffer: &mut [u8]) -> bool {
+    let Ok(kind) = Kind::try_from(byte(record, 0)) else {
+        return false;
+    };
     let before = state::accepted(words);
-    let answer = answered(record, words, buffer);
-    let stream = state::agrees(record, words, buffer);
-    answer && stream && state::accepted(words) == counted(record, before)
+    let (answer, accepted) = match kind {
+        Kind::Begin => (viaductle_begin(words, argument(record, 0)), 0),
+        Kind::Segment => {
+            let lent = lent(words, buffer);
+            (
+                viaductle_consume(words, input(record), lent),
+                counted(record, before),
+            )
+        }
+        Kind::Clear => (viaductle_clear(words), 0),
+    };
+    let stream = state::agrees(record, words, lent(words, buffer));
+    told(record, answer) && stream && state::accepted(words) == accepted
 }

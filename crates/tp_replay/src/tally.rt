@@ -1,6 +1,6 @@
 // What agreed, counted by its answer: at a refusal's number, and for the rest at places of their own.
-use crate::step::{BEGIN, CLEAR};
-use print::line;
+use crate::step::Kind;
+use print::out;
 use replay::{byte, check, count};
 
 // How many places there are, and those that are no refusal's number.
@@ -18,12 +18,25 @@ const REPORTS: u8 = 42;
 
 const RECORDS: u8 = 43;
 
+// The lines: a place, and what is counted there.
+const LINES: [(u8, &str); 10] = [
+    (BEGUN, "streams begun"),
+    (ACCEPTED, "segments accepted"),
+    (30, "segments refused with 30, not a segment"),
+    (31, "segments refused with 31, too big"),
+    (32, "segments refused with 32, not aligned"),
+    (33, "segments refused with 33, conflicting end"),
+    (CLEARED, "streams cleared"),
+    (REPORTS, "reports taken"),
+    (NOT_COMPLETE, "reports refused with 37, not complete"),
+    (RECORDS, "records that agree in all"),
+];
+
 // The place of a record's answer.
 fn place_of(record: &[u8]) -> u8 {
-    let kind = byte(record, 0);
-    match kind {
-        BEGIN => BEGUN,
-        CLEAR => CLEARED,
+    match Kind::try_from(byte(record, 0)) {
+        Ok(Kind::Begin) => BEGUN,
+        Ok(Kind::Clear) => CLEARED,
         _ => byte(record, 2),
     }
 }
@@ -31,9 +44,10 @@ fn place_of(record: &[u8]) -> u8 {
 // The place of the answer to taking the message after it.
 fn place_of_taking(record: &[u8]) -> u8 {
     if check(record, 4) == 0 {
-        return REPORTS;
+        REPORTS
+    } else {
+        NOT_COMPLETE
     }
-    NOT_COMPLETE
 }
 
 // Counts a record that agreed.
@@ -43,37 +57,10 @@ pub(crate) fn add(record: &[u8], counts: &mut [u32]) {
     count(counts, RECORDS);
 }
 
-// How many there are at a place.
-fn at(counts: &[u32], place: u8) -> u32 {
-    let i = place as usize;
-    if i < counts.len() {
-        return counts[i];
-    }
-    0
-}
-
 // Prints all counts.
 pub(crate) fn print(rt: &impl Print, counts: &[u32]) {
-    line(rt, b"streams begun", at(counts, BEGUN));
-    line(rt, b"segments accepted", at(counts, ACCEPTED));
-    line(
-        rt,
-        b"segments refused with 30, not a segment",
-        at(counts, 30),
-    );
-    line(rt, b"segments refused with 31, too big", at(counts, 31));
-    line(rt, b"segments refused with 32, not aligned", at(counts, 32));
-    line(
-        rt,
-        b"segments refused with 33, conflicting end",
-        at(counts, 33),
-    );
-    line(rt, b"streams cleared", at(counts, CLEARED));
-    line(rt, b"reports taken", at(counts, REPORTS));
-    line(
-        rt,
-        b"reports refused with 37, not complete",
-        at(counts, NOT_COMPLETE),
-    );
-    line(rt, b"records that agree in all", at(counts, RECORDS));
+    for (place, text) in LINES {
+        let n = counts.get(place as usize).copied().unwrap_or(0);
+        out(rt, format_args!("{text}: {n}\n"));
+    }
 }

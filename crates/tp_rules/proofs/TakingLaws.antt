@@ -4,17 +4,15 @@ use mathlib.Core.Path.{◌≡◌, refl, sym, ◌∙◌}
 use mathlib.Core.Bool.{Bool, true, false, ◌&&◌, not}
 use mathlib.Core.List.{List, [], ◌∷◌}
 use native.Mathlib.Omega.{arith}
-use borrow.Author.Tests.{lt-ltb, le-ltb, eqb-true, eqb-false, ne_eqb}
+use borrow.Author.Tests.{eqb-true, eqb-false}
 use lib.Dec.{ltb, eqb}
 use lib.ListN.{length, take, get_or}
 use lib.Seq.{length-take-le}
 use Rattle.numbers.specs.Refusals.{buffer_too_short, not_complete, malformed_state}
-use Rattle.numbers.specs.Answers.{accepted, refused, refuse◌when◌else◌}
+use Rattle.numbers.specs.Answers.{accepted, refuse◌when◌else◌}
 use Rattle.numbers.proofs.AnswerLaws.{when_pass}
 use Rattle.tp_range.specs.Joining.{none}
 use Rattle.tp_machine.specs.declared.TpRange.{TpRange}
-use Rattle.tp_machine.specs.declared.TpEnd.{TpEnd}
-use Rattle.tp_machine.specs.declared.TpEnd.TheVariants.{Known}
 use Rattle.tp_machine.specs.Machine.{State, bad_state}
 use Rattle.tp_machine.specs.Taking.{is_known, whole, complete, end_held, ready}
 use Rattle.tp_machine.proofs.Lists.{and_inv}
@@ -36,29 +34,6 @@ whole_taken n array few some = go (eqb n 1) refl
     go : (b : Bool) → eqb n 1 ≡ b → whole (take n array) ≡ (b && eqb (get_or array 0 none).start 0)
     go true e = rw (eqb-true n 1 e, front array some)
     go false e = not_one (take n array) (λ q. eqb-false n 1 e (sym (length-take-le n array few) ∙ q))
-
--- ---- with a known end, by the number of the ranges
-module _ (end : TpEnd) (e : ℕ) (k : end ≡ Known e) (count : ℕ) (first : TpRange) where
-  pub whole_many : (count ≡ 1 → ⊥) → false ≡ one_whole end count first
-  whole_many n = rw (k, ne_eqb count 1 n)
-
-  pub whole_first : count ≡ 1 → eqb first.start 0 ≡ one_whole end count first
-  whole_first n = rw (k, n)
-
--- ---- 37, 34 or the end, by the tests in their order
-module _ (end : TpEnd) (count : ℕ) (first : TpRange) (room : ℕ) where
-  pub one_not : one_whole end count first ≡ false → refused not_complete ≡ one_ready end count first room
-  unfolding one_ready refuse◌when◌else◌
-  one_not w = rw w
-
-  module _ (w : one_whole end count first ≡ true) where
-    pub one_short : room < 16 + first.end → refused (buffer_too_short (16 + first.end)) ≡ one_ready end count first room
-    unfolding one_ready refuse◌when◌else◌
-    one_short h = rw (w, lt-ltb room (16 + first.end) h)
-
-    pub one_end : 16 + first.end ≤ room → accepted first.end ≡ one_ready end count first room
-    unfolding one_ready refuse◌when◌else◌
-    one_end h = rw (w, le-ltb room (16 + first.end) h)
 
 -- ---- a state whose ranges are the first n of an array
 module _

@@ -1,11 +1,10 @@
 -- The rules are the machine's: what each of them says of a state's parts is what the machine says of the state. Assumes nothing: these are definitions.
-use Rattle.std.specs.Prelude.{ℕ, ◌+◌, ◌≤◌, ◌≡◌, true, false, cond, List, length, take, get_or}
+use Rattle.std.specs.Prelude.{ℕ, ◌+◌, ◌≤◌, ◌≡◌, true, false, cond, List, length, take, get_or, Some, None}
 use Rattle.numbers.specs.Bytes.{be32}
 use Rattle.numbers.specs.Refusals.{ranges_full, count_full}
 use Rattle.numbers.specs.Answers.{pass, ◌>>◌, refuse◌when◌else◌}
 use Rattle.tp_range.specs.Joining.{none}
 use Rattle.tp_machine.specs.declared.TpRange.{TpRange}
-use Rattle.tp_machine.specs.declared.TpEnd.TheVariants.{Unknown, Known}
 use Rattle.tp_machine.specs.Segments.{is_segment, offset, more, end_of, pasted, written}
 use Rattle.tp_machine.specs.Ranges.{greatest_end}
 use Rattle.tp_machine.specs.Machine.{highest, State, bad_state, too_many, counted_out, judged}
@@ -23,8 +22,8 @@ pub record OfTheMachine : Type 0 where
       → judged p seg room
       ≡ (header_judged p.limit p.end (cond (more seg) 0 (greatest_end p.ranges)) (header_of seg) room >> (refuse ranges_full when too_many p seg else refuse count_full when counted_out p else pass))
   -- ranges reach to the limit, or to a known end within it
-  pub unbounded : (p : State) → p.end ≡ Unknown → Reach p p.limit
-  pub bounded : (p : State) (e : ℕ) → p.end ≡ Known e → e ≤ p.limit → Reach p e
+  pub unbounded : (p : State) → p.end ≡ None → Reach p p.limit
+  pub bounded : (p : State) (e : ℕ) → p.end ≡ Some e → e ≤ p.limit → Reach p e
   -- a segment that fits is written at its own offset, and the length field of a report that may be
   pub writing : (buf seg : List ℕ) → 20 ≤ length seg → 16 + end_of seg ≤ length buf → written_at buf (offset seg) seg ≡ written buf seg
   pub length_field : (buf : List ℕ) (end : ℕ) → 8 ≤ length buf → end ≤ highest → length_put buf end ≡ pasted buf 4 (be32 (end + 8))

@@ -10,7 +10,7 @@ mod taking; // taking.rt: answers 37 and 34 of taking
 pub use judging::{end_after, judge_header, previous_end};
 pub use malformed::bad_range;
 pub use taking::{ready_of, whole};
-pub use writing::{AT_ONCE, put_length, write};
+pub use writing::{put_length, write};
 
 // The highest payload limit.
 pub const MAX_LIMIT: u32 = 65520;

@@ -16,11 +16,5 @@ fn never_given(accepted: u32, number: u32) -> bool
 pub fn bad_range(top: u32, accepted: u32, r: TpRange) -> bool
     ensures { (p : State) → Reach p top → p.count ≡ accepted → result ≡ bad_range p r }
 {
-    if r.end < r.start {
-        return true;
-    }
-    if top < r.end {
-        return true;
-    }
-    never_given(accepted, r.number)
+    r.end < r.start || top < r.end || never_given(accepted, r.number)
 }

@@ -1,9 +1,9 @@
 // One segment: whether bytes are one (answer 30), and what its header says. (tp_header.rs)
 #![tactic(auto)]
 
-ghost use Rattle.std.specs.Prelude.{◌≡◌};
+ghost use Rattle.std.specs.Prelude.{◌≡◌, ◌≤◌, length, IsTrue};
 ghost use Rattle.tp_machine.specs.Segments.{tp_type, is_segment};
-ghost use Rattle.tp_segment.specs.Reading.{segment_said, segment_refusal, reading};
+ghost use Rattle.tp_segment.specs.Reading.{segment_said, reading};
 
 use big_endian::be32;
 use refusal::Refusal;
@@ -21,63 +21,38 @@ pub struct TpHeader {
     pub size: usize,
 }
 
-// What reading a segment answers.
-#[derive(Clone, Copy)]
-pub enum SegmentAnswer {
-    Good(TpHeader),
-    Refused(Refusal),
-}
-
-impl SegmentAnswer {
-    // Why it was refused; 20 where it was not.
-    pub fn refusal(self) -> Refusal
-        ensures { result ≡ segment_refusal self }
-    {
-        let SegmentAnswer::Refused(refusal) = self else {
-            return Refusal::NothingThere;
-        };
-        refusal
-    }
-}
-
 // Whether a message type has the TP bit.
+#[tactic(auto, unfolding(tp_machine::specs::Segments::tp_type))]
 fn tp_type(t: u8) -> bool
     ensures { result ≡ tp_type t }
 {
-    match t {
-        0x20 | 0x21 | 0x22 | 0xa0 | 0xa1 => true,
-        _ => false,
-    }
+    matches!(t, 0x20 | 0x21 | 0x22 | 0xa0 | 0xa1)
 }
 
 // Whether bytes are a segment: the contrary of answer 30.
+#[tactic(auto, unfolding(tp_machine::specs::Segments::is_segment, numbers::specs::Bytes::at32, numbers::specs::Bytes::at16))]
 fn is_segment(s: &[u8]) -> bool
-    ensures { result ≡ is_segment s.now }
+    ensures is { result ≡ is_segment s.now }
+    ensures long { IsTrue result → 20 ≤ length s.now }
 {
-    if s.len() < SEGMENT_HEADER_LEN {
-        return false;
-    }
-    let field = be32(s[4], s[5], s[6], s[7]) as usize;
-    if field != s.len() - 8 {
-        return false;
-    }
-    if s[12] != 1 {
-        return false;
-    }
-    tp_type(s[14])
+    s.len() >= SEGMENT_HEADER_LEN
+        && be32(s[4], s[5], s[6], s[7]) as usize == s.len() - 8
+        && s[12] == 1
+        && tp_type(s[14])
 }
 
 // What a segment's header says, or answer 30.
-pub fn read(s: &[u8]) -> SegmentAnswer
+#[tactic(auto, using(crate::proofs::Laws::reads_not, crate::proofs::Laws::reads_good), unfolding(numbers::specs::Bytes::at32, numbers::specs::Bytes::at16))]
+pub fn read(s: &[u8]) -> Result<TpHeader, Refusal>
     ensures { segment_said result ≡ reading s.now }
 {
-    if is_segment(s) {
-        let tp = be32(s[16], s[17], s[18], s[19]);
-        return SegmentAnswer::Good(TpHeader {
-            offset: tp - tp % 16,
-            more: tp % 2 == 1,
-            size: s.len() - SEGMENT_HEADER_LEN,
-        });
+    if !is_segment(s) {
+        return Err(Refusal::NotASegment);
     }
-    SegmentAnswer::Refused(Refusal::NotASegment)
+    let tp = be32(s[16], s[17], s[18], s[19]);
+    Ok(TpHeader {
+        offset: tp - tp % 16,
+        more: tp % 2 == 1,
+        size: s.len() - SEGMENT_HEADER_LEN,
+    })
 }

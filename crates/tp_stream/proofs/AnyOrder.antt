@@ -1,9 +1,10 @@
 -- The order in which segments come to a stream does not matter: its calls run as the machine does. Assumes nothing.
+use Rattle.std.specs.Prelude.{Result}
 use mathlib.Core.Path.{◌≡◌, refl, sym, ap, ◌∙◌}
 use mathlib.Core.List.{List}
 use mathlib.Core.Logic.{◌↔◌}
 use Prim.Native.Nat.{ℕ}
-use Rattle.refusal.specs.declared.answers.Count.{Count}
+use Rattle.refusal.specs.declared.Refusal.{Refusal}
 use Rattle.refusal.specs.Said.{count_said}
 use Rattle.tp_machine.specs.Machine.{Out, step, begin}
 use Rattle.tp_machine.specs.Taking.{Taken, complete, taking}
@@ -36,7 +37,7 @@ module _ (f : Feed) {t : TpStream} {b : List ℕ} (k : FedTo f t b) where
   ran = runs k.comes (opening f) fresh
 
   -- what is handed out is the machine's
-  handed : (r : Count) (part : List ℕ) → HandsOut t b r part → (count_said r ≡ (taking (outcome f).state (outcome f).buffer).answer) × (part ≡ (taking (outcome f).state (outcome f).buffer).part)
+  handed : (r : Result ℕ Refusal) (part : List ℕ) → HandsOut t b r part → (count_said r ≡ (taking (outcome f).state (outcome f).buffer).answer) × (part ≡ (taking (outcome f).state (outcome f).buffer).part)
   handed r part h =
       let same : taking (view t) b ≡ taking (outcome f).state (outcome f).buffer = λ i. taking (sym ran.0 i) (sym ran.1 i) in
       (h.takes.answers ∙ ap (λ (x : Taken). x.answer) same, reports t b r h.after part h.takes h.hands ∙ ap (λ (x : Taken). x.part) same)

@@ -1,22 +1,23 @@
 -- What the promises come to over the machine: the states begun and cleared are the machine's, calls one after the other run as the machine
 -- does, and the part that is handed out after taking is the machine's report. Assumes nothing.
+use Rattle.std.specs.Prelude.{Result}
 use Prim.Native.Nat.{ℕ}
 use mathlib.Core.Path.{◌≡◌, refl, sym, ap, ◌∙◌}
 use mathlib.Core.List.{List}
 use native.Mathlib.Omega.{arith}
 use lib.ListN.{length}
-use Rattle.refusal.specs.declared.answers.Count.{Count}
+use Rattle.refusal.specs.declared.Refusal.{Refusal}
+use Rattle.refusal.specs.declared.answers.Step.{Step}
 use Rattle.tp_machine.specs.Machine.{State, Out, step, begin, fed, clear}
 use Rattle.tp_machine.specs.Taking.{ready, report, taking}
 use Rattle.tp_machine.proofs.Steps.{finished_length}
 use Rattle.tp_stream.specs.declared.TpStream.{TpStream}
-use Rattle.tp_stream.specs.declared.TpStep.{TpStep}
 use Rattle.tp_stream.specs.Stream.{view, stored, blank}
 use Rattle.tp_stream.specs.Promises.{Began, Took}
 use Rattle.tp_stream.specs.AnyOrder.{Called, none, next}
 use Rattle.tp_stream.proofs.StreamLaws.{view_stored}
 
-pub begins : (limit : ℕ) (r : TpStep) → Began limit r → view r.stream ≡ begin limit
+pub begins : (limit : ℕ) (r : Step (Unit {0}) TpStream) → Began limit r → view r.after ≡ begin limit
 unfolding begin
 begins limit r b = ap view b.begins ∙ view_stored blank (begin limit) (omega arith)
 
@@ -36,7 +37,7 @@ runs (next {s} {buf} {seg} ran more) o h =
     let q = e ∙ sym ran.steps in
     runs more (step o.state seg o.buffer) (ap (λ (x : Out). x.state) q, ap (λ (x : Out). x.buffer) q)
 
-pub reports : (s : TpStream) (buf : List ℕ) (r : Count) (after part : List ℕ) → Took s buf r after
+pub reports : (s : TpStream) (buf : List ℕ) (r : Result ℕ Refusal) (after part : List ℕ) → Took s buf r after
     → part ≡ report (ready (view s) (length after)) after → part ≡ (taking (view s) buf).part
 unfolding taking
 reports s buf r after part t e =

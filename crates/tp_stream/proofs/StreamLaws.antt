@@ -1,22 +1,17 @@
 -- Laws of a stream's record: the state that it holds, and a record with a state put into it. Assumes nothing.
+use Rattle.std.specs.Prelude.{Ok, Err, None}
 use Prim.Native.Nat.{ℕ, ◌-◌, ◌≤◌, ◌<◌}
 use mathlib.Core.Path.{◌≡◌, refl, sym, ap, ◌∙◌}
-use mathlib.Core.Bool.{Bool, true, false, cond}
+use mathlib.Core.Bool.{Bool, true, false}
 use mathlib.Core.List.{List, [], ◌++◌, append-nil, append_assoc, map}
 use native.Mathlib.Omega.{arith}
 use borrow.Author.Tests.{leb-true, leb-false, lt-ltb, le-ltb}
-use lib.Dec.{leb, ltb}
+use lib.Dec.{leb}
 use lib.ListN.{length, take, drop, replicate, length-append, length-take, length-replicate, length-map, take-append-drop}
 use lib.Seq.{take-length, take_all, take-append_seam}
 use Rattle.tp_machine.specs.declared.TpRange.{TpRange}
-use Rattle.numbers.specs.Refusals.{limit_too_large}
-use Rattle.numbers.specs.Answers.{refused, pass, refuse◌when◌else◌}
-use Rattle.numbers.proofs.AnswerLaws.{when_hit, when_pass, not_refused}
-use Rattle.refusal.specs.declared.Refusal.{Refusal}
-use Rattle.refusal.specs.declared.answers.Verdict.{Verdict}
-use Rattle.refusal.specs.declared.answers.Verdict.TheVariants as verdict
-use Rattle.refusal.specs.Said.{said, verdict_said}
-use Rattle.tp_machine.specs.declared.TpEnd.TheVariants.{Unknown}
+use Rattle.numbers.proofs.AnswerLaws.{when_hit, when_pass}
+use Rattle.refusal.specs.declared.Refusal.TheVariants.{LimitTooLarge}
 use Rattle.tp_machine.specs.Machine.{most, highest, State, fresh, begun, begin, clear}
 use Rattle.tp_range.specs.Joining.{none, placed}
 use Rattle.tp_range.proofs.Laws.{over, over_length, placed_over}
@@ -80,36 +75,20 @@ keeps_places : (rs : List TpRange) → rs ≡ placed rs []
 unfolding placed
 keeps_places rs = sym (take-length rs)
 
-pub cleared : (s : TpStream) → record { limit = s.limit; ranges = s.ranges; count = 0; end = Unknown; accepted = 0 } ≡ stored s (clear (view s))
+pub cleared : (s : TpStream) → record { limit = s.limit; ranges = s.ranges; count = 0; end = None; accepted = 0 } ≡ stored s (clear (view s))
 unfolding clear
-cleared s = λ i. record { limit = s.limit; ranges = keeps_places s.ranges i; count = 0; end = Unknown; accepted = 0 }
+cleared s = λ i. record { limit = s.limit; ranges = keeps_places s.ranges i; count = 0; end = None; accepted = 0 }
 
-pub fresh_stored : (limit : ℕ) → record { limit = limit; ranges = replicate most none; count = 0; end = Unknown; accepted = 0 } ≡ stored blank (fresh limit)
+pub fresh_stored : (limit : ℕ) → record { limit = limit; ranges = replicate most none; count = 0; end = None; accepted = 0 } ≡ stored blank (fresh limit)
 unfolding blank clear
-fresh_stored limit = cleared (record { limit = limit; ranges = replicate most none; count = 0; end = Unknown; accepted = 0 })
+fresh_stored limit = cleared (record { limit = limit; ranges = replicate most none; count = 0; end = None; accepted = 0 })
 
-module _ (limit : ℕ) where
-  pub begun_not : highest < limit → refused (limit_too_large limit) ≡ begun limit
-  unfolding begun
-  begun_not h = rw (lt-ltb highest limit h, when_hit)
+-- the limit that is granted
+module _ (limit : ℕ) (s : TpStream) where
+  pub began_not : highest < limit → s ≡ stored blank (fresh 0) → Began limit (record { answer = Err (LimitTooLarge limit); after = s })
+  unfolding begun begin
+  began_not h e = record { answers = rw (lt-ltb highest limit h, when_hit); begins = rw (lt-ltb highest limit h) e }
 
-  pub begun_well : limit ≤ highest → pass ≡ begun limit
-  unfolding begun
-  begun_well h = rw (le-ltb highest limit h, when_pass)
-
-  -- the limit that is granted, by what was answered
-  pub began_not : (a : Verdict) (r : Refusal) (s : TpStream) → a ≡ verdict.Refused r → verdict_said a ≡ begun limit → s ≡ stored blank (fresh 0) → Began limit (record { answer = a; stream = s })
-  unfolding begun begin refuse◌when◌else◌
-  began_not a r s is q e = record { answers = q; begins = go (ltb highest limit) (ap verdict_said (sym is) ∙ q) }
-    where
-      go : (b : Bool) → refused (said r) ≡ (refuse limit_too_large limit when b else pass) → s ≡ stored blank (fresh (cond b 0 limit))
-      go true w = e
-      go false w = not_refused (said r) tt w
-
-  pub began_well : (a : Verdict) (s : TpStream) → a ≡ verdict.Passed → verdict_said a ≡ begun limit → s ≡ stored blank (fresh limit) → Began limit (record { answer = a; stream = s })
-  unfolding begun begin refuse◌when◌else◌
-  began_well a s is q e = record { answers = q; begins = go (ltb highest limit) (ap verdict_said (sym is) ∙ q) }
-    where
-      go : (b : Bool) → pass ≡ (refuse limit_too_large limit when b else pass) → s ≡ stored blank (fresh (cond b 0 limit))
-      go true w = not_refused (limit_too_large limit) tt (sym w)
-      go false w = e
+  pub began_well : limit ≤ highest → s ≡ stored blank (fresh limit) → Began limit (record { answer = Ok tt; after = s })
+  unfolding begun begin
+  began_well h e = record { answers = rw (le-ltb highest limit h, when_pass); begins = rw (le-ltb highest limit h) e }

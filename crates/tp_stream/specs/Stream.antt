@@ -1,7 +1,6 @@
 -- The machine's state that a stream's record holds, and a record with a state put into it. Assumes nothing: these are definitions.
-use Rattle.std.specs.Prelude.{ℕ, ◌-◌, List, ◌++◌, length, take, replicate}
+use Rattle.std.specs.Prelude.{ℕ, ◌-◌, List, ◌++◌, length, take, replicate, None}
 use Rattle.tp_machine.specs.declared.TpRange.{TpRange}
-use Rattle.tp_machine.specs.declared.TpEnd.TheVariants.{Unknown}
 use Rattle.tp_machine.specs.Machine.{most, State}
 use Rattle.tp_range.specs.Joining.{none, placed}
 use Rattle.tp_stream.specs.declared.TpStream.{TpStream}
@@ -19,4 +18,4 @@ stored s p = record { limit = p.limit; ranges = placed s.ranges p.ranges; count 
 
 -- a record that was never used
 unfoldable pub blank : TpStream
-blank = record { limit = 0; ranges = replicate most none; count = 0; end = Unknown; accepted = 0 }
+blank = record { limit = 0; ranges = replicate most none; count = 0; end = None; accepted = 0 }

@@ -5,17 +5,14 @@ ghost use Rattle.tp_machine.specs.Taking.{ready as ready_of};
 ghost use Rattle.tp_stream.specs.Stream.{view};
 
 use crate::TpStream;
-use refusal::{Count, Refusal};
+use crate::malformed::well_formed;
+use refusal::Refusal;
 
 // Answers 38, 37 and 34 for a buffer of `room` bytes, or where the one range ends.
-pub(crate) fn ready(s: TpStream, room: usize) -> Count
-    ensures { count_said result ≡ ready_of (view s) room }
+#[tactic(auto, using(crate::proofs::TakingLaws::ready_bad, crate::proofs::TakingLaws::ready_held, crate::proofs::StreamLaws::length_of_map))]
+pub(crate) fn ready(s: &TpStream, room: usize) -> Result<usize, Refusal>
+    ensures { count_said result ≡ ready_of (view s.now) room }
 {
-    if crate::malformed::malformed(s) {
-        return Count::Refused(Refusal::MalformedState);
-    }
-    let end = s.end;
-    let ranges = s.ranges;
-    let first = ranges[0];
-    tp_rules::ready_of(end, s.count, first, room)
+    well_formed(s)?;
+    tp_rules::ready_of(s.end, s.count, s.ranges[0], room)
 }

@@ -1,4 +1,5 @@
 -- What is shown of words that hold a stream. Assumes nothing.
+use Rattle.std.specs.Prelude.{Option, Some, None}
 use Prim.Native.Nat.{ℕ, zero, suc, ◌+◌, ◌*◌, ◌≤◌, ◌<◌}
 use mathlib.Core.Path.{◌≡◌, refl, sym, ap, ◌∙◌}
 use mathlib.Core.Bool.{Bool, true, false, ◌||◌, cond}
@@ -10,11 +11,9 @@ use lib.Dec.{ltb}
 use lib.ListN.{length, take, drop, get_or, length-append, length-drop}
 use lib.Seq.{take-suc, take-length, drop_at}
 use Rattle.numbers.specs.Refusals.{malformed_state}
-use Rattle.numbers.specs.Answers.{given}
+use Rattle.numbers.specs.Answers.{given, refuse◌when◌else◌}
 use Rattle.numbers.proofs.AnswerLaws.{when_hit}
 use Rattle.tp_machine.specs.declared.TpRange.{TpRange}
-use Rattle.tp_machine.specs.declared.TpEnd.{TpEnd}
-use Rattle.tp_machine.specs.declared.TpEnd.TheVariants.{Unknown, Known}
 use Rattle.tp_machine.specs.Machine.{most, State, bad_state, judged, previous}
 use Rattle.tp_machine.specs.Taking.{complete, ready, taking}
 use Rattle.tp_machine.specs.Telling.{range_told, count_told}
@@ -78,13 +77,13 @@ module _ (l c k e m : ℕ) (rs : List TpRange) (t : List ℕ) where
   ranges_are zero h = refl
   ranges_are (suc n) h = (λ j. ranges_are n (omega arith) j ++ (range_is n h j ∷ [])) ∙ sym (take-suc rs n none h)
 
-end_back : (e : TpEnd) → end_of (known e) (previous e) ≡ e
-end_back Unknown = refl
-end_back (Known e) = refl
+end_back : (e : Option ℕ) → end_of (known e) (previous e) ≡ e
+end_back None = refl
+end_back (Some e) = refl
 
-known_low : (e : TpEnd) → known e ≤ 1
-known_low Unknown = omega arith
-known_low (Known e) = omega arith
+known_low : (e : Option ℕ) → known e ≤ 1
+known_low None = omega arith
+known_low (Some e) = omega arith
 
 module _ (ws : List ℕ) (s : TpStream) (places : length s.ranges ≡ most) where
   words_length : length (words_of s) ≡ size
@@ -173,11 +172,11 @@ many_malformed ws h = go (unfit ws) refl
     go false e = ap (λ (s : TpStream). bad_state (view s)) (sym (told ws e)) ∙ sym (more_than_most (held_in ws) h)
 
 refuses : (p : State) → bad_state p ≡ true → Refuses p
-unfolding judged taking ready complete given range_told count_told
+unfolding judged taking ready complete given range_told count_told refuse◌when◌else◌
 refuses p m =
     record {
       segments = λ seg buf. step_refused p seg buf malformed_state (when_hit malformed_state (bad_state p) _ m);
-      report = λ buf. rw (m, when_hit);
+      report = λ buf. rw m;
       incomplete = rw m;
       ranges = λ x. when_hit malformed_state (bad_state p) _ m;
       count = when_hit malformed_state (bad_state p) _ m;

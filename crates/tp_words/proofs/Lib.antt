@@ -1,3 +1,4 @@
 pub mod WordLaws
 pub mod PutLaws
+pub mod FirstLaws
 pub mod Holding

@@ -99,8 +99,3 @@ laid_ends ws rs l i h e =
     e
     ∙ ap (λ (qs : List TpRange). (take 5 ws ++ flat qs) ++ drop (5 + 3 * i) ws) (take_all i rs (omega arith))
     ∙ append_assoc (take 5 ws) (flat rs) (drop (5 + 3 * i) ws)
-
--- ---- the first five words
-
-pub put_five : (ws : List ℕ) (a b c d e : ℕ) → 5 ≤ length ws → set (set (set (set (set ws 0 a) 1 b) 2 c) 3 d) 4 e ≡ a ∷ b ∷ c ∷ d ∷ e ∷ drop 5 ws
-put_five ws a b c d e h = sets-eq (a ∷ b ∷ c ∷ d ∷ e ∷ []) ws 0 h

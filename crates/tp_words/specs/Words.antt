@@ -1,9 +1,7 @@
 -- A stream's state as words that the caller keeps: the limit, how many ranges are held, whether an end is known (0 or 1), the end, how many
 -- segments were accepted, and for each range that can be held its start, its end and its number. Assumes nothing: these are definitions.
-use Rattle.std.specs.Prelude.{ℕ, zero, suc, ◌+◌, ◌*◌, Bool, ◌||◌, cond, List, [], ◌∷◌, ◌++◌, length, drop, get_or, ltb, eqb}
+use Rattle.std.specs.Prelude.{ℕ, zero, suc, ◌+◌, ◌*◌, Bool, ◌||◌, cond, List, [], ◌∷◌, ◌++◌, length, drop, get_or, ltb, eqb, Option, Some, None}
 use Rattle.tp_machine.specs.declared.TpRange.{TpRange}
-use Rattle.tp_machine.specs.declared.TpEnd.{TpEnd}
-use Rattle.tp_machine.specs.declared.TpEnd.TheVariants.{Unknown, Known}
 use Rattle.tp_machine.specs.Machine.{most, State, previous}
 use Rattle.tp_stream.specs.declared.TpStream.{TpStream}
 use Rattle.tp_stream.specs.Stream.{view, blank}
@@ -23,8 +21,8 @@ unfoldable pub ranges_in : List ℕ → ℕ → List TpRange
 ranges_in ws zero = []
 ranges_in ws (suc n) = ranges_in ws n ++ (range_at ws n ∷ [])
 
-abbrev pub end_of : (known end : ℕ) → TpEnd
-end_of known end = cond (eqb known 0) Unknown (Known end)
+abbrev pub end_of : (known end : ℕ) → Option ℕ
+end_of known end = cond (eqb known 0) None (Some end)
 
 -- too few words, or neither 0 nor 1 where it is told whether an end is known
 abbrev pub unfit : List ℕ → Bool
@@ -32,7 +30,7 @@ unfit ws = ltb (length ws) size || ltb 1 (get_or ws 2 0)
 
 -- a state that is malformed: it holds nothing, and its end is past its limit
 abbrev pub outside : TpStream
-outside = record { limit = 0; ranges = blank.ranges; count = 0; end = Known 1; accepted = 0 }
+outside = record { limit = 0; ranges = blank.ranges; count = 0; end = Some 1; accepted = 0 }
 
 unfoldable pub held_in : List ℕ → TpStream
 held_in ws =
@@ -58,9 +56,9 @@ unfoldable pub flat : List TpRange → List ℕ
 flat [] = []
 flat (r ∷ rs) = r.start ∷ r.end ∷ r.number ∷ flat rs
 
-abbrev pub known : TpEnd → ℕ
-known Unknown = 0
-known (Known e) = 1
+abbrev pub known : Option ℕ → ℕ
+known None = 0
+known (Some e) = 1
 
 unfoldable pub words_of : TpStream → List ℕ
 words_of s = s.limit ∷ s.count ∷ known s.end ∷ previous s.end ∷ s.accepted ∷ flat s.ranges

@@ -2,10 +2,11 @@
 // segments were accepted, and then for each range that can be held its start, its end and its number.
 #![tactic(auto)]
 
-ghost use Rattle.std.specs.Prelude.{◌≡◌, ◌≤◌, ◌∷◌, ◌++◌, length, take, drop};
-ghost use Rattle.tp_words.specs.Words.{size, end_of, unfit as unfit_of, outside as outside_of, held_in, stream_of, known, flat, put as put_of};
+ghost use Rattle.std.specs.Prelude.{◌≡◌, ◌<◌, ◌≤◌, ◌++◌, take};
+ghost use Rattle.tp_machine.specs.Machine.{most};
+ghost use Rattle.tp_words.specs.Words.{range_at, end_of, unfit as unfit_of, outside as outside_of, held_in, stream_of, known, flat, words_of, put as put_of};
 
-use tp_machine::{TpEnd, TpRange};
+use tp_machine::TpRange;
 use tp_range::{MAX_RANGES, UNUSED};
 use tp_stream::TpStream;
 
@@ -16,55 +17,56 @@ pub const RANGE_WORDS: usize = 3;
 
 pub const WORDS: usize = FRONT_WORDS + RANGE_WORDS * MAX_RANGES;
 
-// The end that two words tell.
-pub fn end_of(known: u32, end: u32) -> TpEnd
+// The words of a state.
+pub type Words = [u32; WORDS];
+
+// The end that two words tell. (No `From`, here and below: a word is told by its place, and not by its type.)
+pub fn end_of(known: u32, end: u32) -> Option<u32>
     ensures { result ≡ end_of known end }
 {
-    if known == 0 {
-        return TpEnd::Unknown;
-    }
-    TpEnd::Known(end)
+    (known != 0).then_some(end)
 }
 
 // Whether an end is known, as a word.
-pub fn known_of(end: TpEnd) -> u32
+pub fn known_of(end: Option<u32>) -> u32
     ensures { result ≡ known end }
 {
-    match end {
-        TpEnd::Unknown => 0,
-        TpEnd::Known(_) => 1,
-    }
+    u32::from(end.is_some())
 }
 
 // A stream that is malformed.
 fn outside() -> TpStream
     ensures { result ≡ outside_of }
 {
-    let ranges = [UNUSED; MAX_RANGES];
     TpStream {
         limit: 0,
-        ranges,
+        ranges: [UNUSED; MAX_RANGES],
         count: 0,
-        end: TpEnd::Known(1),
+        end: Some(1),
         accepted: 0,
     }
 }
 
+// The range at place i, behind the first five words.
+fn range_at(words: &Words, i: usize) -> TpRange
+    requires { i < most }
+    ensures { result ≡ range_at words.now i }
+{
+    let at = FRONT_WORDS + RANGE_WORDS * i;
+    TpRange {
+        start: words[at],
+        end: words[at + 1],
+        number: words[at + 2],
+    }
+}
+
 // The stream that these words hold.
-fn held_in(words: &[u32]) -> TpStream
-    requires { size ≤ length words.now }
+fn held_in(words: &Words) -> TpStream
     ensures { result ≡ held_in words.now }
 {
     let mut ranges = [UNUSED; MAX_RANGES];
-    let mut i: usize = 0;
-    while i < MAX_RANGES {
-        let at = FRONT_WORDS + RANGE_WORDS * i;
-        ranges[i] = TpRange {
-            start: words[at],
-            end: words[at + 1],
-            number: words[at + 2],
-        };
-        i += 1;
+    for (i, range) in ranges.iter_mut().enumerate() {
+        *range = range_at(words, i);
     }
     TpStream {
         limit: words[0],
@@ -79,48 +81,44 @@ fn held_in(words: &[u32]) -> TpStream
 pub fn unfit(words: &[u32]) -> bool
     ensures { result ≡ unfit_of words.now }
 {
-    if words.len() < WORDS {
-        return true;
-    }
-    1 < words[2]
+    words.len() < WORDS || 1 < words[2]
 }
 
 // The stream that any words hold: a malformed one where they are unfit.
 pub fn stream_of(words: &[u32]) -> TpStream
     ensures { result ≡ stream_of words.now }
 {
-    if unfit(words) {
-        return outside();
+    match words.first_chunk() {
+        Some(first) if !unfit(first) => held_in(first),
+        _ => outside(),
     }
-    held_in(words)
 }
 
 // The ranges into the words behind the first five.
-fn put_ranges(words: &mut [u32], ranges: [TpRange; MAX_RANGES])
-    requires { size ≤ length words.old }
-    ensures { words.new ≡ take 5 words.old ++ (flat ranges ++ drop size words.old) }
+fn put_ranges(words: &mut Words, ranges: &[TpRange; MAX_RANGES])
+    ensures { words.new ≡ take 5 words.old ++ flat ranges.now }
 {
-    let mut i: usize = 0;
-    while i < MAX_RANGES {
-        let r = ranges[i];
+    for (i, r) in ranges.iter().enumerate() {
         let at = FRONT_WORDS + RANGE_WORDS * i;
         words[at] = r.start;
         words[at + 1] = r.end;
         words[at + 2] = r.number;
-        i += 1;
     }
 }
 
-// Five numbers into the first five words.
-fn put_front(words: &mut [u32], a: u32, b: u32, c: u32, d: u32, e: u32)
-    requires { 5 ≤ length words.old }
-    ensures { words.new ≡ a ∷ b ∷ c ∷ d ∷ e ∷ drop 5 words.old }
+// A stream into the words of a state.
+fn put_in(words: &mut Words, stream: TpStream)
+    requires { stream.count ≤ most }
+    ensures { words.new ≡ words_of stream }
 {
-    words[0] = a;
-    words[1] = b;
-    words[2] = c;
-    words[3] = d;
-    words[4] = e;
+    words[..FRONT_WORDS].copy_from_slice(&[
+        stream.limit,
+        stream.count as u32,
+        known_of(stream.end),
+        stream.end.unwrap_or(0),
+        stream.accepted,
+    ]);
+    put_ranges(words, &stream.ranges);
 }
 
 // A stream into the words that were lent. They are left alone where they are too few, or the stream counts more ranges than may be held (no
@@ -128,21 +126,10 @@ fn put_front(words: &mut [u32], a: u32, b: u32, c: u32, d: u32, e: u32)
 pub fn put(words: &mut [u32], stream: TpStream)
     ensures { words.new ≡ put_of words.old stream }
 {
-    if words.len() < WORDS {
-        return;
-    }
     if MAX_RANGES < stream.count {
         return;
     }
-    let end = stream.end;
-    put_front(
-        words,
-        stream.limit,
-        stream.count as u32,
-        known_of(end),
-        tp_rules::previous_end(end),
-        stream.accepted,
-    );
-    let ranges = stream.ranges;
-    put_ranges(words, ranges);
+    if let Some(first) = words.first_chunk_mut() {
+        put_in(first, stream);
+    }
 }

@@ -1,7 +1,5 @@
-use Prim.Native.Nat.{◌-◌}
 use mathlib.Core.Path.{◌≡◌}
 use lib.Dec.{eqb}
-use lib.ListN.{length}
 use Rattle.sd_format.specs.Strings.{key_of, judge_key}
 use Rattle.config_string.specs.Classes.{space}
 use Rattle.config_string.proofs.ClassLaws.{OfKey}
@@ -9,7 +7,4 @@ use Rattle.config_string.proofs.KeyLaws.{key_left}
 use Rattle.config_string.proofs.check_key.Given as goal
 
 abbrev pub invariant-loop-i : goal.invariant-loop-i
-invariant-loop-i l = (judge_key l.at (key_of l.item) ≡ key_left l.at l.item l.i (eqb l.seen space)) × OfKey l.seen
-
-abbrev pub decreases-loop-i : goal.decreases-loop-i
-decreases-loop-i l = length l.item - l.i
+invariant-loop-i l = record { left : judge_key l.at (key_of l.item) ≡ key_left l.at l.item l.i (eqb l.seen space); of_key : OfKey l.seen }

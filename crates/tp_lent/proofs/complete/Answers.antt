@@ -1,43 +1,17 @@
 -- `tp_lent::complete` meets its contract. Assumes nothing.
-use Prim.Native.Nat.{◌≤◌}
-use mathlib.Core.Path.{◌≡◌, sym, ◌∙◌}
-use mathlib.Core.Bool.{true}
-use native.Mathlib.Omega.{arith}
-use lib.ListN.{length}
-use Rattle.tp_words.specs.Words.{size}
-use Rattle.tp_lent.specs.Lent.{in_order}
-use Rattle.tp_lent.proofs.CallLaws.{wide, completes}
+use mathlib.Core.Path.{ap, ◌∙◌}
+use Rattle.tp_machine.specs.Taking.{complete}
+use Rattle.tp_stream.specs.declared.TpStream.{TpStream}
+use Rattle.tp_stream.specs.Stream.{view}
+use Rattle.tp_lent.proofs.CallLaws.{completes}
 use Rattle.tp_lent.proofs.OrderMeans.{incomplete}
 use Rattle.tp_lent.proofs.complete.Goals as goal
 
-pub bounds-words-2 : goal.bounds-words-2
-bounds-words-2 c =
-    let order : in_order c.args.words.now ≡ true = sym c.in_order.ensures ∙ c.if-in_order.true in
-    let enough : size ≤ length c.args.words.now = wide c.args.words.now order in
-    omega arith
-
-pub bounds-words-3 : goal.bounds-words-3
-bounds-words-3 c =
-    let order : in_order c.args.words.now ≡ true = sym c.in_order.ensures ∙ c.if-in_order.true in
-    let enough : size ≤ length c.args.words.now = wide c.args.words.now order in
-    omega arith
-
-pub bounds-words-1 : goal.bounds-words-1
-bounds-words-1 c =
-    let order : in_order c.args.words.now ≡ true = sym c.in_order.ensures ∙ c.if-in_order.true in
-    let enough : size ≤ length c.args.words.now = wide c.args.words.now order in
-    omega arith
-
-pub range_at-requires : goal.range_at-requires
-range_at-requires c =
-    let order : in_order c.args.words.now ≡ true = sym c.in_order.ensures ∙ c.if-in_order.true in
-    let enough : size ≤ length c.args.words.now = wide c.args.words.now order in
-    (omega arith, enough)
-
-pub returns-then-in_order : goal.returns-then-in_order
-returns-then-in_order c =
-    let order : in_order c.args.words.now ≡ true = sym c.in_order.ensures ∙ c.if-in_order.true in
-    c.whole.ensures ∙ completes c.args.words.now order c.end_of-end.result c.range_at.result c.end_of-end.ensures c.range_at.ensures
+pub returns-in_default : goal.returns-in_default
+returns-in_default c = incomplete c.args.words.now c.in_default.ensures
 
 pub returns : goal.returns
-returns c = incomplete c.args.words.now (sym c.in_order.ensures ∙ c.if-in_order.false)
+returns c =
+    c.whole.ensures
+    ∙ completes c.in-Some.stream.words.now c.in-Some.ensures.0 _ _ _ c.end.ensures c.count.ensures c.range_at.ensures
+    ∙ ap (λ (s : TpStream). complete (view s)) c.in-Some.ensures.1

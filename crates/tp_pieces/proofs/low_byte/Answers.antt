@@ -11,8 +11,8 @@ returns-then-piece c =
     let low : offset % 256 / 16 * 16 + 1 ≡ (offset / 16 * 16 + 1) % 256 = omega arith in
     low ∙ sym (ap (λ (b : Bool). (offset / 16 * 16 + cond b 1 0) % 256) c.if-piece.true)
 
-pub returns : goal.returns
-returns c =
+pub returns-else-piece : goal.returns-else-piece
+returns-else-piece c =
     let offset : ℕ = c.args.piece.offset in
     let low : offset % 256 / 16 * 16 ≡ (offset / 16 * 16 + 0) % 256 = omega arith in
     low ∙ sym (ap (λ (b : Bool). (offset / 16 * 16 + cond b 1 0) % 256) c.if-piece.false)

@@ -1,17 +1,15 @@
--- `tp_range::greatest_end` meets its contract: the greatest end so far, and that of the rest, is that of all. Assumes nothing.
-use mathlib.Core.Path.{sym, ◌∙◌}
+-- `tp_range::greatest_end` meets its contract: the greatest of 0 and the ends is the greatest end. Assumes nothing.
+use Prim.Native.Nat.{max}
+use mathlib.Core.Path.{◌∙◌}
 use borrow.Author.Rules.{rules}
 use native.Mathlib.Omega.{arith}
-use Rattle.tp_range.specs.Joining.{none}
-use Rattle.tp_range.proofs.Laws.{greatest_start, greatest_next, greatest_done}
+use Rattle.std.proofs.Common.{tests}
+use Rattle.std.proofs.lemmas.Iterator.{YieldsList-from_slice}
+use Rattle.std.proofs.lemmas.Iterator.Consumers.{fold_from_yields_List}
+use Rattle.tp_range.proofs.FoldLaws.{greatest_is}
 use Rattle.tp_range.proofs.greatest_end.Goals as goal
 
-pub loop-i-init : goal.loop-i-init
-loop-i-init c = greatest_start _ _ _ (search rules) c.places-held.ensures
-
-pub loop-i-preserved : goal.loop-i-preserved
-loop-i-preserved c =
-    greatest_next _ _ _ none c.loop-i-test.true (omega arith) _ _ c.greatest-end.ensures ∙ c.loop-i.invariant
-
 pub returns : goal.returns
-returns c = sym (greatest_done _ _ _ _ c.loop-i-test.false) ∙ c.loop-i.invariant
+returns c =
+    fold_from_yields_List _ (λ a r. max a r.end) _ _ c.fold.ensures.ran (YieldsList-from_slice c.args.held.now cc) (λ a x b q k. search (rules, tests))
+    ∙ omega (arith, greatest_is 0 c.args.held.now)

@@ -1,4 +1,4 @@
-use Prim.Native.Nat.{ℕ, ◌-◌, ◌≤◌}
+use Prim.Native.Nat.{ℕ, ◌≤◌}
 use mathlib.Core.Path.{◌≡◌}
 use mathlib.Core.List.{List}
 use lib.ListN.{length, take}
@@ -8,16 +8,13 @@ use Rattle.tp_machine.specs.Ranges.{keep, grow}
 use Rattle.tp_range.proofs.Laws.{over}
 use Rattle.tp_range.proofs.join.Given as goal
 
-pub record Held (new : TpRange) (array : List TpRange) (held : ℕ) (out : List TpRange) (kept : ℕ) (grown : TpRange) (i : ℕ) : Type 0 where
-  pub upto : i ≤ held
-  pub few : kept ≤ i
+-- seen are those that the loop has looked at: out has those of them that `new` does not touch, grown the others
+pub record Held (new : TpRange) (array seen out : List TpRange) (kept : ℕ) (grown : TpRange) : Type 0 where
   pub long : length out ≡ most
-  pub counts : kept ≡ length (keep new (take i array))
-  pub lays : out ≡ over (keep new (take i array)) array
-  pub grows : grown ≡ grow new new (take i array)
+  pub few : kept ≤ length seen
+  pub counts : kept ≡ length (keep new seen)
+  pub lays : out ≡ over (keep new seen) array
+  pub grows : grown ≡ grow new new seen
 
-abbrev pub invariant-loop-i : goal.invariant-loop-i
-invariant-loop-i l = Held l.new l.ranges l.held l.out l.kept l.grown l.i
-
-abbrev pub decreases-loop-i : goal.decreases-loop-i
-decreases-loop-i l = l.held - l.i
+abbrev pub invariant-loop-r : goal.invariant-loop-r
+invariant-loop-r l = Held l.new l.fn.ranges (take l.r-index l.r-items) l.out l.kept l.grown

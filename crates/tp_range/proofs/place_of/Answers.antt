@@ -1,19 +1,17 @@
--- `tp_range::place_of` meets its contract: none of those passed begins behind `start`, so that they and those that stand before the first of the rest
--- are all. Assumes nothing.
-use mathlib.Core.Path.{sym, ◌∙◌}
-use native.Mathlib.Nat.{le_antisymm}
-use native.Mathlib.Omega.{arith}
-use Rattle.tp_range.specs.Joining.{none}
-use Rattle.tp_range.proofs.Laws.{place_here, place_next, place_end}
+-- `tp_range::place_of` meets its contract. Assumes nothing.
+use mathlib.Core.Path.{◌≡◌, ap, ◌∙◌}
+use borrow.Author.Rules.{rules}
+use lib.Dec.{ltb}
+use lib.ListN.{length}
+use Rattle.std.proofs.Common.{tests, Option, ℕ}
+use Rattle.std.specs.Option.{unwrap_or}
+use Rattle.std.specs.List.{position}
+use Rattle.std.proofs.lemmas.Iterator.{YieldsList-from_slice}
+use Rattle.std.proofs.lemmas.Iterator.Search.{position_from_yields_List}
+use Rattle.tp_range.proofs.FoldLaws.{first_or_all}
 use Rattle.tp_range.proofs.place_of.Goals as goal
 
-pub returns-then-start-r : goal.returns-then-start-r
-returns-then-start-r c =
-    sym (place_here _ _ _ none c.loop-i-test.true (omega arith) _ c.if-start-r.true) ∙ c.loop-i.invariant.rest
-
-pub loop-i-preserved : goal.loop-i-preserved
-loop-i-preserved c =
-    record { upto = omega arith; rest = place_next _ _ _ none c.loop-i-test.true (omega arith) _ c.if-start-r.false ∙ c.loop-i.invariant.rest }
-
-pub returns : goal.returns
-returns c = let inv = c.loop-i.invariant in le_antisymm c.loop-i-test.false inv.upto ∙ sym (place_end _ _ _ _ c.loop-i-test.false) ∙ inv.rest
+pub returns-clause-first : goal.returns-clause-first
+returns-clause-first c =
+    let found : c.position.result ≡ position (λ r. ltb c.args.start r.start) c.args.held.now = position_from_yields_List _ _ _ _ c.position.ensures.ran (YieldsList-from_slice c.args.held.now cc) (λ x b q k. search (rules, tests)) in
+    c.unwrap_or.ensures ∙ ap (λ (o : Option ℕ). unwrap_or o (length c.args.held.now)) found ∙ first_or_all (λ r. ltb c.args.start r.start) c.args.held.now

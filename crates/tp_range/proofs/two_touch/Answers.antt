@@ -1,24 +1,27 @@
--- `tp_range::two_touch` meets its contract: those passed touch none behind them, so the answer for all is the answer for the rest. Assumes nothing.
-use mathlib.Core.Path.{sym, ◌∙◌}
-use native.Mathlib.Omega.{arith}
-use Rattle.tp_range.specs.Joining.{none}
-use Rattle.tp_range.proofs.Laws.{any_hit, any_miss, any_end, touch_hit, touch_miss, touch_end}
+-- `tp_range::two_touch` meets its contract: those passed touch none behind them, so the answer for all is the answer for what is left. Assumes nothing.
+use mathlib.Core.Path.{◌≡◌, sym, ◌∙◌}
+use mathlib.Core.Bool.{Bool, true, false, ◌||◌}
+use mathlib.Core.List.{List, ◌∷◌}
+use borrow.Author.Rules.{rules}
+use Rattle.std.proofs.Common.{tests}
+use Rattle.std.proofs.lemmas.Iterator.{YieldsList-from_slice}
+use Rattle.std.proofs.lemmas.Iterator.Search.{any_from_yields_List}
+use Rattle.tp_machine.specs.declared.TpRange.{TpRange}
+use Rattle.tp_machine.specs.Ranges.{any, touch, some_touch}
+use Rattle.tp_range.proofs.FoldLaws.{any_is}
 use Rattle.tp_range.proofs.two_touch.Goals as goal
 
-pub loop-i-preserved : goal.loop-i-preserved
-loop-i-preserved c =
-    touch_miss _ _ _ none c.loop-i-test.true (omega arith) (sym c.loop-j.invariant ∙ any_end _ _ _ _ c.loop-j-test.false)
-    ∙ c.loop-i.invariant
+-- the first of those that are left, and whether it touches one behind it
+first : (left behind : List TpRange) (r : TpRange) (hit : Bool) → left ≡ r ∷ behind → hit ≡ any (touch r) behind → some_touch left ≡ (hit || some_touch behind)
+unfolding some_touch
+first left behind r hit is e = rw (is, e)
 
-pub returns-then-touches : goal.returns-then-touches
-returns-then-touches c =
-    let one = sym c.loop-j.invariant ∙ any_hit _ _ _ none c.loop-j-test.true (omega arith) _ (sym c.touches.ensures ∙ c.if-touches.true) in
-    sym (touch_hit _ _ _ none c.loop-i-test.true (omega arith) one) ∙ c.loop-i.invariant
+pub returns-then-any : goal.returns-then-any
+returns-then-any c =
+    let e = any_from_yields_List (touch c.in-Some.r.now) _ _ _ c.any.ensures.ran (YieldsList-from_slice c.in-Some.behind.now cc) (λ x b q k. search (rules, tests)) in
+    sym (c.loop-r.invariant ∙ first c.loop-r.left.now c.in-Some.behind.now c.in-Some.r.now true c.in-Some.ensures.cases.0 (sym c.if-any.true ∙ e ∙ sym (any_is _ _)))
 
-pub loop-j-preserved : goal.loop-j-preserved
-loop-j-preserved c =
-    any_miss _ _ _ none c.loop-j-test.true (omega arith) _ (sym c.touches.ensures ∙ c.if-touches.false)
-    ∙ c.loop-j.invariant
-
-pub returns : goal.returns
-returns c = sym (touch_end _ _ _ c.loop-i-test.false) ∙ c.loop-i.invariant
+pub loop-r-preserved : goal.loop-r-preserved
+loop-r-preserved c =
+    let e = any_from_yields_List (touch c.in-Some.r.now) _ _ _ c.any.ensures.ran (YieldsList-from_slice c.in-Some.behind.now cc) (λ x b q k. search (rules, tests)) in
+    c.loop-r.invariant ∙ first c.loop-r.left.now c.in-Some.behind.now c.in-Some.r.now false c.in-Some.ensures.cases.0 (sym c.if-any.false ∙ e ∙ sym (any_is _ _))

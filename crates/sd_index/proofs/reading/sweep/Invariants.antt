@@ -6,7 +6,7 @@ use Rattle.sd_index.proofs.Turns.{Turn}
 use Rattle.sd_index.proofs.reading.sweep.Given as goal
 
 abbrev pub invariant-loop-at : goal.invariant-loop-at
-invariant-loop-at l = Turn (settings_said l.settings) l.options l.initial.table l.table l.at.0 l.count.0 (verdict_said l.permission)
+invariant-loop-at l = Turn (settings_said l.settings) l.options l.initial.slots l.slots l.at.0 l.count.0 (verdict_said l.permission)
 
 abbrev pub decreases-loop-at : goal.decreases-loop-at
 decreases-loop-at l = length l.options - l.at.0

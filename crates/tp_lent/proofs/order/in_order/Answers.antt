@@ -1,35 +1,33 @@
 -- `tp_lent::order::in_order` meets its contract. Assumes nothing.
 use Prim.Native.Nat.{ℕ}
-use mathlib.Core.Path.{◌≡◌, sym, subst, ◌∙◌}
-use mathlib.Core.Bool.{Bool, false}
+use mathlib.Core.Path.{◌≡◌, refl, sym, ap, ◌∙◌}
+use mathlib.Core.Bool.{Bool, true, false, not, ◌&&◌}
 use mathlib.Core.List.{List}
-use native.Mathlib.Omega.{arith}
-use Rattle.tp_rules.specs.Malformed.{Reach}
-use Rattle.tp_words.specs.Words.{state_of}
-use Rattle.tp_lent.specs.Lent.{unready}
-use Rattle.tp_lent.proofs.ReadyLaws.{enough, few, reach, count_is}
+use Rattle.tp_machine.specs.Machine.{bad_range}
+use Rattle.tp_range.specs.Ordered.{rising}
+use Rattle.tp_words.specs.Words.{stream_of, state_of}
+use Rattle.tp_lent.specs.Lent.{held, unready, in_order}
+use Rattle.tp_words.proofs.FirstLaws.{first_stream}
+use Rattle.tp_lent.proofs.FrontLaws.{first_order}
 use Rattle.tp_lent.proofs.order.in_order.Goals as goal
 
--- words that are not unready
-ready : (words : List ℕ) {answer : Bool} → answer ≡ unready words → answer ≡ false → unready words ≡ false
-ready words told good = sym told ∙ good
+-- words whose ranges are out of order
+out : (ws : List ℕ) → rising (bad_range (state_of ws)) 0 (held ws) ≡ false → in_order ws ≡ false
+out ws e = go (unready ws)
+  where
+    go : (b : Bool) → (not b && rising (bad_range (state_of ws)) 0 (held ws)) ≡ false
+    go true = refl
+    go false = e
 
-pub returns-then-unready : goal.returns-then-unready
-returns-then-unready c = rw (sym c.unready.ensures ∙ c.if-unready.true)
+pub returns-in_err-stream : goal.returns-in_err-stream
+returns-in_err-stream c =
+    rw c.from_residual-in_err-stream.ensures (sym (first_order _ _ c.in_ok-first_chunk.ensures.cases) ∙ rw c.in_err-stream.ensures)
 
-pub bounds-words-1 : goal.bounds-words-1
-bounds-words-1 c = omega (arith, enough c.args.words.now (ready c.args.words.now c.unready.ensures c.if-unready.false))
-
-pub top_of-requires : goal.top_of-requires
-top_of-requires c = enough c.args.words.now (ready c.args.words.now c.unready.ensures c.if-unready.false)
-
-pub survey-found-requires : goal.survey-found-requires
-survey-found-requires c =
-    let known = ready c.args.words.now c.unready.ensures c.if-unready.false in
-    (few c.args.words.now known, enough c.args.words.now known)
+pub returns-in_err-survey : goal.returns-in_err-survey
+returns-in_err-survey c =
+    rw c.from_residual-in_err-survey.ensures
+    (sym (first_order _ _ c.in_ok-first_chunk.ensures.cases) ∙ ap in_order (sym c.in_ok-stream.ensures) ∙ out c.in_ok-stream.stream.words.now c.in_err-survey.ensures)
 
 pub returns : goal.returns
 returns c =
-    let ws = c.args.words.now in
-    let known = ready ws c.unready.ensures c.if-unready.false in
-    rw known (c.survey-found.ensures (state_of ws) (subst (Reach (state_of ws)) (sym c.top_of.ensures) (reach ws known)) (count_is ws known)).fine
+    (rw (c.in_ok-stream.stream.ready, c.in_ok-survey.ensures.order), ap stream_of c.in_ok-stream.ensures ∙ first_stream _ _ c.in_ok-first_chunk.ensures.cases)

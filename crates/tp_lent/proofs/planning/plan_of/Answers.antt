@@ -1,110 +1,63 @@
 -- `tp_lent::planning::plan_of` meets its contract. Assumes nothing.
-use Prim.Native.Nat.{◌+◌}
+use Rattle.std.specs.Prelude.{Result, Ok, Err, Some}
+use Rattle.std.specs.Result.{result_ok}
+use Prim.Native.Nat.{ℕ, ◌+◌, ◌≤◌, ◌<◌}
 use mathlib.Core.Path.{◌≡◌, sym, ap, subst, ◌∙◌}
-use mathlib.Core.Bool.{true, false, cond, false≢true}
+use mathlib.Core.Bool.{true}
+use mathlib.Core.List.{List}
+use mathlib.Core.Logic.{◌⊎◌}
 use native.Mathlib.Omega.{arith}
 use lib.ListN.{get_or}
-use Rattle.numbers.specs.Answers.{pass}
-use Rattle.tp_machine.specs.Lists.{counted}
-use Rattle.tp_machine.specs.Ranges.{ends_before, begins_by}
+use Rattle.refusal.specs.declared.Refusal.{Refusal}
+use Rattle.tp_machine.specs.declared.TpRange.{TpRange}
+use Rattle.tp_machine.specs.Machine.{most, highest}
+use Rattle.tp_machine.specs.Meaning.{range, range_of}
 use Rattle.tp_machine.specs.Segments.{is_segment}
-use Rattle.tp_machine.specs.Meaning.{range}
-use Rattle.tp_machine.specs.Machine.{bad_range}
 use Rattle.tp_segment.specs.declared.TpHeader.{TpHeader}
 use Rattle.tp_segment.specs.Reading.{header_of, segment_said}
 use Rattle.tp_segment.proofs.Laws.{reading_good}
-use Rattle.tp_rules.specs.Judging.{header_judged}
-use Rattle.tp_rules.specs.Malformed.{Reach}
-use Rattle.tp_words.specs.Words.{end_of, state_of}
-use Rattle.tp_range.specs.Ordered.{rising}
-use Rattle.tp_lent.specs.Lent.{held, unready, last_end, Surveys}
-use Rattle.tp_lent.proofs.ReadyLaws.{enough, few, low, reach, count_is}
+use Rattle.tp_lent.specs.Lent.{Surveyed, Planned}
+use Rattle.tp_lent.proofs.ReadyLaws.{low}
 use Rattle.tp_lent.proofs.PlanLaws.{within, passed}
 use Rattle.tp_lent.proofs.planning.plan_of.Goals as goal
 
-pub returns-then-unready : goal.returns-then-unready
-returns-then-unready c e = absurd (false≢true (sym c.not_at_once.ensures ∙ e))
-
-pub returns-in_default : goal.returns-in_default
-returns-in_default c e = absurd (false≢true (sym c.not_at_once-in_default.ensures ∙ e))
-
--- words that are not unready have as many as a state has
-pub bounds-words-1 : goal.bounds-words-1
-bounds-words-1 c =
-    let ws = c.args.words.now in
-    let ready : unready ws ≡ false = sym c.unready.ensures ∙ c.if-unready.false in
-    omega (arith, enough ws ready)
-
-pub passes-requires : goal.passes-requires
-passes-requires c =
-    let ws = c.args.words.now in
-    let ready : unready ws ≡ false = sym c.unready.ensures ∙ c.if-unready.false in
-    (few ws ready, enough ws ready)
-
-pub bounds-words-4 : goal.bounds-words-4
-bounds-words-4 c =
-    let ws = c.args.words.now in
-    let ready : unready ws ≡ false = sym c.unready.ensures ∙ c.if-unready.false in
-    omega (arith, enough ws ready)
+-- what gave a header was one
+was_ok : (r : Result TpHeader Refusal) (h : TpHeader) → result_ok r ≡ Some h → r ≡ Ok h
+was_ok (Ok x) h e = cc
+was_ok (Err q) h e = cc
 
 -- a segment that passed ends within the limit
 pub overflow_cast-new : goal.overflow_cast-new
 overflow_cast-new c =
-    let ws = c.args.words.now in
-    let ready : unready ws ≡ false = sym c.unready.ensures ∙ c.if-unready.false in
-    let read = c.in-Good.header in
-    let passes : header_judged (get_or ws 0 0) (end_of (get_or ws 2 0) (get_or ws 3 0)) (cond read.more 0 (last_end ws (get_or ws 1 0))) read c.args.room ≡ pass = c.passes.ensures c.if-passes.true in
-    omega (arith, within _ _ _ read _ passes, low ws ready)
+    let h = c.in_ok-header.header in
+    let ends : h.offset + h.size ≤ get_or c.in_ok-stream.stream.words.now 0 0 = within _ _ _ h _ (c.passes.ensures c.if-not-passes.false) in
+    let least : get_or c.in_ok-stream.stream.words.now 0 0 ≤ highest = low c.in_ok-stream.stream.words.now c.in_ok-stream.stream.ready in
+    omega arith
 
 pub overflow_add-new : goal.overflow_add-new
 overflow_add-new c =
-    let ws = c.args.words.now in
-    let ready : unready ws ≡ false = sym c.unready.ensures ∙ c.if-unready.false in
-    let read = c.in-Good.header in
-    let passes : header_judged (get_or ws 0 0) (end_of (get_or ws 2 0) (get_or ws 3 0)) (cond read.more 0 (last_end ws (get_or ws 1 0))) read c.args.room ≡ pass = c.passes.ensures c.if-passes.true in
-    omega (arith, within _ _ _ read _ passes, low ws ready)
-
-pub bounds-words-4-then-words-lt-LAST_NUMBER : goal.bounds-words-4-then-words-lt-LAST_NUMBER
-bounds-words-4-then-words-lt-LAST_NUMBER c =
-    let ws = c.args.words.now in
-    let ready : unready ws ≡ false = sym c.unready.ensures ∙ c.if-unready.false in
-    omega (arith, enough ws ready)
-
-pub top_of-requires : goal.top_of-requires
-top_of-requires c =
-    let ws = c.args.words.now in
-    let ready : unready ws ≡ false = sym c.unready.ensures ∙ c.if-unready.false in
-    enough ws ready
-
-pub survey-found-requires : goal.survey-found-requires
-survey-found-requires c =
-    let ws = c.args.words.now in
-    let ready : unready ws ≡ false = sym c.unready.ensures ∙ c.if-unready.false in
-    (few ws ready, enough ws ready)
-
--- what was read, and what one pass told
-pub returns-then-room_left : goal.returns-then-room_left
-returns-then-room_left c e =
-    let ws = c.args.words.now in
-    let ready : unready ws ≡ false = sym c.unready.ensures ∙ c.if-unready.false in
-    let read = c.in-Good.header in
-    let passes : header_judged (get_or ws 0 0) (end_of (get_or ws 2 0) (get_or ws 3 0)) (cond read.more 0 (last_end ws (get_or ws 1 0))) read c.args.room ≡ pass = c.passes.ensures c.if-passes.true in
-    let i : (is_segment c.args.seg.now ≡ true) × (read ≡ header_of c.args.seg.now) = reading_good c.args.seg.now read (ap segment_said (sym c.in-Good.is) ∙ c.read.ensures) in
-    let s : Surveys (state_of ws) (held ws) read.offset (read.offset + read.size) c.survey-found.result =
-    c.survey-found.ensures (state_of ws) (subst (Reach (state_of ws)) (sym c.top_of.ensures) (reach ws ready)) (count_is ws ready) in
-    let left = c.room_left.ensures c.if-room_left.true in
-    let order : rising (bad_range (state_of ws)) 0 (held ws) ≡ true = sym s.fine ∙ left.fine in
-    record {
-      ready = ready;
-      order = order;
-      passed = passed ws c.args.seg.now c.args.room ready i.0 order read i.1 passes;
-      number_left = c.if-words-lt-LAST_NUMBER.true;
-      new = ap (λ (h : TpHeader). range h.offset (h.offset + h.size) (get_or ws 4 0 + 1)) i.1;
-      more_follows = ap (λ (h : TpHeader). h.more) i.1;
-      before = s.before left.fine ∙ ap (λ (h : TpHeader). counted (ends_before h.offset) (held ws)) i.1;
-      behind = s.behind left.fine ∙ ap (λ (h : TpHeader). counted (begins_by (h.offset + h.size)) (held ws)) i.1;
-      room_left = left.room;
-    }
+    let h = c.in_ok-header.header in
+    let ends : h.offset + h.size ≤ get_or c.in_ok-stream.stream.words.now 0 0 = within _ _ _ h _ (c.passes.ensures c.if-not-passes.false) in
+    let least : get_or c.in_ok-stream.stream.words.now 0 0 ≤ highest = low c.in_ok-stream.stream.words.now c.in_ok-stream.stream.ready in
+    omega arith
 
 pub returns : goal.returns
-returns c e = absurd (false≢true (sym c.not_at_once-2.ensures ∙ e))
+returns c =
+    let s = c.in_ok-stream.stream.words.now in
+    let h = c.in_ok-header.header in
+    let read : c.read.result ≡ Ok h = was_ok c.read.result h (sym c.ok.ensures.value ∙ c.in_ok-header.was) in
+    let i : (is_segment c.args.seg.now ≡ true) × (h ≡ header_of c.args.seg.now) = reading_good c.args.seg.now h (ap segment_said (sym read) ∙ c.read.ensures) in
+    let number : c.in_ok-checked_add.field-0 ≡ get_or s 4 0 + 1 = c.in_ok-checked_add.ensures.1 ∙ ap (λ (n : ℕ). n + 1) c.accepted.ensures in
+    let new : range h.offset (h.offset + h.size) c.in_ok-checked_add.field-0 ≡ range_of (get_or s 4 0 + 1) c.args.seg.now =
+    ap (range h.offset (h.offset + h.size)) number ∙ ap (λ (x : TpHeader). range x.offset (x.offset + x.size) (get_or s 4 0 + 1)) i.1 in
+    let found : Surveyed s (range_of (get_or s 4 0 + 1) c.args.seg.now) c.in_ok-found.found = subst (λ (r : TpRange). Surveyed s r c.in_ok-found.found) new c.in_ok-found.ensures in
+    subst (λ (ws : List ℕ). Planned ws c.args.seg.now c.args.room (record { new = range h.offset (h.offset + h.size) c.in_ok-checked_add.field-0; more = h.more; found = c.in_ok-found.found })) c.in_ok-stream.ensures
+    (record {
+      ready = c.in_ok-stream.stream.ready;
+      passed = passed s c.args.seg.now c.args.room c.in_ok-stream.stream.ready i.0 found.order h i.1 (c.passes.ensures c.if-not-passes.false);
+      number_left = omega (arith, c.in_ok-checked_add.ensures.0, c.accepted.ensures);
+      new = new;
+      more_follows = ap (λ (x : TpHeader). x.more) i.1;
+      found = found;
+      room_left = subst (λ (n : ℕ). (c.in_ok-found.found.before < c.in_ok-found.found.behind) ⊎ (n < most)) c.count.ensures (c.room_left.ensures c.if-not-room_left.false);
+    })

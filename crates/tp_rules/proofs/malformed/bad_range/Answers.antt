@@ -1,12 +1,10 @@
--- `tp_rules::malformed::bad_range` meets its contract: by the tests in their order. Assumes nothing.
-use Rattle.tp_rules.proofs.MalformedLaws.{bad_early, bad_late, bad_number}
+-- `tp_rules::malformed::bad_range` meets its contract. Assumes nothing.
+use native.Mathlib.Omega.{arith}
+use Rattle.tp_rules.proofs.MalformedLaws.{bad_tests}
 use Rattle.tp_rules.proofs.malformed.bad_range.Goals as goal
 
-pub returns-then-r : goal.returns-then-r
-returns-then-r c = λ p reach counts. bad_early p _ c.if-r.true
-
 pub returns-then-top-r : goal.returns-then-top-r
-returns-then-top-r c = λ p reach counts. bad_late p _ _ _ reach counts c.if-r.false c.if-top-r.true
+returns-then-top-r c = λ p reach counts. let e = bad_tests p c.args.r c.args.top c.args.accepted reach counts in grind arith
 
-pub returns : goal.returns
-returns c = λ p reach counts. bad_number p _ _ _ reach counts c.if-r.false c.if-top-r.false _ c.never_given.ensures
+pub returns-else-top-r : goal.returns-else-top-r
+returns-else-top-r c = λ p reach counts. let e = bad_tests p c.args.r c.args.top c.args.accepted reach counts in grind arith

@@ -1,17 +1,16 @@
 -- `tp_stream::telling::range_from` meets its contract. Assumes nothing.
-use mathlib.Core.Path.{sym, ◌∙◌}
-use Rattle.tp_stream.proofs.StreamLaws.{length_of_map}
-use Rattle.tp_stream.proofs.TellingLaws.{range_bad, few, range_good}
-use borrow.Author.Rules.{rules}
+use mathlib.Core.Path.{ap, ◌∙◌}
+use Rattle.tp_machine.specs.Telling.{first_from}
+use Rattle.tp_stream.specs.Telling.{range_said}
+use Rattle.tp_stream.proofs.MalformedLaws.{few_counted}
+use Rattle.tp_stream.proofs.TellingLaws.{range_good, range_or_nothing}
 use Rattle.tp_stream.proofs.telling.range_from.Goals as goal
 
-pub returns-then-malformed : goal.returns-then-malformed
-returns-then-malformed c = range_bad _ _ (sym c.malformed.ensures ∙ c.if-malformed.true)
-
-pub first_from-requires : goal.first_from-requires
-first_from-requires c = few _ (sym c.malformed.ensures ∙ c.if-malformed.false)
-
--- what `search` finds is the length of the stream's array
 pub returns : goal.returns
 returns c =
-    range_good _ (sym c.malformed.ensures ∙ c.if-malformed.false) _ _ (search (rules, length_of_map)) c.first_from.ensures
+    let good = c.in_ok-well_formed.ensures in
+    ap range_said c.ok_or.ensures.value
+    ∙ range_or_nothing _
+    ∙ c.first_from.ensures
+    ∙ ap (first_from c.args.from) (c.held.ensures (few_counted c.args.s good))
+    ∙ range_good _ good _

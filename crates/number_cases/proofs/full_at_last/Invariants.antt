@@ -1,9 +1,0 @@
-use Prim.Native.Nat.{◌-◌, ◌≤◌}
-use Rattle.tp_machine.specs.Machine.{most}
-use Rattle.number_cases.proofs.full_at_last.Given as goal
-
-abbrev pub invariant-loop-i : goal.invariant-loop-i
-invariant-loop-i g l = l.i ≤ most
-
-abbrev pub decreases-loop-i : goal.decreases-loop-i
-decreases-loop-i g l = most - l.i

@@ -1,8 +1,0 @@
--- `sd_replay::step::part` is safe. Assumes nothing.
-use mathlib.Core.Path.{sym}
-use native.Mathlib.Omega.{arith}
-use lib.Seq.{length-take-le}
-use Rattle.sd_replay.proofs.step.part.Goals as goal
-
-pub slice_bounds-result-end-2 : goal.slice_bounds-result-end-2
-slice_bounds-result-end-2 c = sym (length-take-le _ _ (omega arith))
