@@ -24,7 +24,7 @@ pub const STRICT: Settings = Settings {
     strict: true,
 };
 
-// A bit's value where it is set; by a test, of which the check sees that the sum of two fits.
+// A bit's value where it is set; by a test, so that the sum of a few is seen to fit.
 fn bit(set: bool, value: u32) -> u32
     ensures { result ≤ value }
 {
@@ -37,7 +37,15 @@ pub fn word(settings: Settings) -> u32 {
         + bit(settings.strict, hub::settings::STRICT)
 }
 
-// That an exported function told something else than was said, where it did.
+// What a public function said, as numbers: accepted, with the values that it gives, or the refusal.
+pub fn said<const N: usize>(answer: Result<[u64; N], Refusal>) -> Numbers {
+    match answer {
+        Ok(values) => Numbers::new(0, &values),
+        Err(refusal) => Numbers::from(refusal),
+    }
+}
+
+// That an exported function told something else than was said, where it did. (A type of its own, and so is the next: a type has one `Display`.)
 #[derive(Clone, Copy)]
 pub struct Exported {
     pub said: Numbers,

@@ -32,7 +32,7 @@ pub struct Entry {
     pub spare: u64,
 }
 
-// An answer with no fields.
+// An answer with no fields: each is written out, as in the definition.
 fn no_entry(answer: Answer) -> Entry
     ensures { result ≡ no_entry answer }
 {
@@ -84,6 +84,7 @@ fn entry_fields(entry: SdEntry) -> Entry
             head,
             minor_version,
         } => {
+            // by hand: `sd_entry`, which reads a type from its code, has no use for the way back
             let code = match entry_type {
                 SdServiceEntryType::FindService => 0x00,
                 SdServiceEntryType::OfferService => 0x01,

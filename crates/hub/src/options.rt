@@ -40,6 +40,7 @@ pub fn viaductle_next_option(options: &[u8], at: usize, settings: u32) -> Answer
     let offset = Offset(at);
     let cursor = OptionCursor { at: offset };
     let step = cursor.next(settings_of(settings), options);
+    // not by `map`: what a closure over `at` gives was not proved, and so in `viaductle_next_item`
     match step.answer {
         Ok(head) => accepted(&located_values(Found { offset, head })),
         Err(refusal) => Answer::from(refusal),
@@ -105,7 +106,7 @@ pub struct Option {
     pub string_len: u64,
 }
 
-// An answer with no fields.
+// An answer with no fields: each is written out, as in the definition.
 fn no_option(answer: Answer) -> Option
     ensures { result ≡ no_option answer }
 {
@@ -128,7 +129,7 @@ fn no_option(answer: Answer) -> Option
 // Where the parts behind an option's first byte start, which is byte 3.
 const BEHIND_FIRST: u64 = 4;
 
-// How long an address is.
+// How long an address is. (`sd_field` has a function of the family inside: no plainer from here.)
 fn address_len(address: IpAddress) -> usize
     ensures { result ≡ address_length (address_said address).family }
 {

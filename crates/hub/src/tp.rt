@@ -37,6 +37,7 @@ pub fn viaductle_complete(words: &[u32]) -> Answer
 pub fn viaductle_take(words: &[u32], buffer: &mut [u8]) -> Answer
     ensures { Takes words.now buffer.old result buffer.new }
 {
+    // not by `map`: a function for one sum would be no plainer
     match tp_lent::take(words, buffer) {
         Ok(end) => accepted(&[(HEADER_LEN + end) as u64]),
         Err(refusal) => Answer::from(refusal),

@@ -8,7 +8,8 @@ ghost use Rattle.std.specs.Io.KnownBytes.{Consumes};
 use std::env::{Env, FillError};
 use std::io::Read;
 
-// Puts the word at a place at the start of the buffer; answers how many bytes it has, 0 where it does not fit. There is none past the last word.
+// Puts the word at a place at the start of the buffer; answers how many bytes it has, 0 where it does not fit, which is a word all the same. There is
+// none past the last word.
 pub fn word(rt: &impl Env, place: usize, buf: &mut [u8]) -> Option<usize>
     ensures { IfSome result (λ n. n ≤ length buf.new) }
 {

@@ -8,12 +8,12 @@ use hub::tp::{viaductle_clear, viaductle_count, viaductle_range};
 use print::out;
 use refusal::Numbers;
 use tp_machine::TpRange;
-use tp_pieces::{Piece, ROOM, last, more};
+use tp_pieces::{Piece, ROOM, WORDS, last, more};
 use tp_range::MAX_RANGES;
 use tp_stream::{LAST_NUMBER, TpStream};
 
 // A stream, and the exported one.
-type Streams = tp_pieces::Streams<ROOM>;
+type Streams = tp_pieces::Streams<ROOM, WORDS, ROOM>;
 
 // How many segments were accepted, here and by the exported function.
 fn count(rt: &impl Print, streams: &Streams) {

@@ -1,19 +1,15 @@
 // One option by every call that reads it: alone, by the cursor, in an index, in a payload and in a message.
 ghost use Rattle.std.specs.Prelude.{◌≤◌, length};
 
-use case_lines::{answer, message, payload, word};
+use case_lines::{answer, message, payload, said, word};
 use hub::options::{viaductle_index, viaductle_next_option, viaductle_read_option};
-use refusal::Numbers;
 use sd_index::{Offset, OptionCursor, SLOTS};
 use sd_option::Settings;
 use sd_option::reading::read_option;
 
 // An option alone.
 fn alone(rt: &impl Print, name: &str, option: &[u8], settings: Settings) {
-    let said = match read_option(settings, option) {
-        Ok(_) => Numbers::new(0, &[]),
-        Err(refusal) => Numbers::from(refusal),
-    };
+    let said = said(read_option(settings, option).map(|_| []));
     let told = viaductle_read_option(option, word(settings));
     answer(rt, name, said, told.answer);
 }
@@ -21,10 +17,8 @@ fn alone(rt: &impl Print, name: &str, option: &[u8], settings: Settings) {
 // An option at a place among others, by the cursor.
 fn by_cursor(rt: &impl Print, name: &str, options: &[u8], at: usize, settings: Settings) {
     let cursor = OptionCursor { at: Offset(at) };
-    let said = match cursor.next(settings, options).answer {
-        Ok(head) => Numbers::new(0, &[head.code as u64, at as u64, head.size as u64]),
-        Err(refusal) => Numbers::from(refusal),
-    };
+    let read = cursor.next(settings, options).answer;
+    let said = said(read.map(|head| [head.code as u64, at as u64, head.size as u64]));
     answer(
         rt,
         name,
@@ -36,10 +30,7 @@ fn by_cursor(rt: &impl Print, name: &str, options: &[u8], at: usize, settings: S
 // An index.
 fn in_index(rt: &impl Print, name: &str, options: &[u8], settings: Settings) {
     let mut table = [0u16; SLOTS];
-    let said = match sd_index::read_index(settings, options, &mut table) {
-        Ok(n) => Numbers::new(0, &[n as u64]),
-        Err(refusal) => Numbers::from(refusal),
-    };
+    let said = said(sd_index::read_index(settings, options, &mut table).map(|n| [n as u64]));
     answer(
         rt,
         name,

@@ -9,7 +9,7 @@ use hub::tp::viaductle_take;
 use print::{Bytes, out};
 use refusal::Numbers;
 use std::fmt;
-use tp_pieces::{Came, ROOM, Streams};
+use tp_pieces::{Came, ROOM, Streams, WORDS};
 
 // 0 to 16, 16 to 32, and 32 to 36, the last.
 const FRONT: [u8; 36] = *b"\
@@ -76,8 +76,8 @@ impl<'a> fmt::Display for Message<'a> {
     }
 }
 
-// The report is taken; prints it, and all of the exported one's buffer.
-fn taken(rt: &impl Print, streams: &mut Streams<ROOM>) {
+// The report is taken; prints it, and all of the exported one's buffer (`tp_pieces` prints how long it is.)
+fn taken(rt: &impl Print, streams: &mut Streams<ROOM, WORDS, ROOM>) {
     let answer = tp_stream::take(streams.here, &mut streams.buf);
     let told = viaductle_take(&streams.words, &mut streams.other);
     match answer {

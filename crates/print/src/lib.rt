@@ -10,6 +10,14 @@ pub fn out(rt: &impl Print, shown: impl fmt::Display + Drop) {
     let _ = rt.print(shown);
 }
 
+// Counts on standard output, a line each: what was counted at a place, and how many there were.
+pub fn tally(rt: &impl Print, lines: &[(u8, &str)], counts: &[u32]) {
+    for (place, text) in lines {
+        let n = counts.get(*place as usize).copied().unwrap_or(0);
+        out(rt, format_args!("{text}: {n}\n"));
+    }
+}
+
 // Bytes out of a payload: as they are where a terminal shows them, as \xNN otherwise. A backslash is spelt out too, since it stands in front of those
 // that are.
 #[derive(Clone, Copy)]

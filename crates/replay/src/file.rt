@@ -62,7 +62,8 @@ pub fn open_first<R: Files + Env>(rt: &R, errors: &impl Print) -> Option<R::File
     }
 }
 
-// The next record: how many bytes it has, which stand in front in the buffer; 0 where none comes that is whole and fits.
+// The next record: how many bytes it has, which stand in front in the buffer; 0 where none comes that is whole and fits. (No `Option`: whoever
+// called it is answered as before.)
 pub fn next_record(from: &mut impl Read, buf: &mut [u8]) -> usize
     ensures in_bounds { result ≤ length buf.new }
     ensures front { result ≡ length (take result buf.new) }

@@ -3,8 +3,7 @@
 // place among the six. Where an exported function told something else, the line says so.
 #![tactic(auto)]
 
-use case_lines::{DISCARDING, answer, payload};
-use refusal::Numbers;
+use case_lines::{DISCARDING, answer, payload, said};
 use sd_option::PLAIN;
 
 mod cases; // cases.rt: the bytes of the cases
@@ -12,10 +11,7 @@ mod parts; // parts.rt: what is told of a payload's parts
 
 // A configuration string.
 fn string(rt: &impl Print, name: &str, s: &[u8]) {
-    let said = match config_string::check_string(s) {
-        Ok(()) => Numbers::new(0, &[]),
-        Err(refusal) => Numbers::from(refusal),
-    };
+    let said = said(config_string::check_string(s).map(|()| []));
     answer(rt, name, said, hub::options::viaductle_string(s));
 }
 

@@ -32,7 +32,8 @@ impl EntryCursor {
         read_entry(&s[self.at..])
     }
 
-    // The entry at the cursor and the cursor behind it; where it is refused, the cursor where it was.
+    // The entry at the cursor and the cursor behind it; where it is refused, the cursor where it was. (The other cursors have this match too; one function
+    // for all would need a closure for the step, and be no plainer.)
     #[tactic(auto, using(crate::proofs::Laws::entry_fits))]
     pub fn next(self, s: &[u8]) -> Step<SdEntry, EntryCursor>
         ensures { Stepped s.now self.at result }

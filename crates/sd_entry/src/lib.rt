@@ -154,6 +154,7 @@ pub fn read_entry(s: &[u8]) -> Result<SdEntry, Refusal>
         return Err(Refusal::UnexpectedEndOfSlice(ENTRY_LEN));
     };
     let code = bytes[0];
+    // codes in ranges, here and in `judge_entry`: the rules' paper names this form
     match code {
         0x00..=0x01 => Ok(SdEntry::Service {
             entry_type: SdServiceEntryType::try_from(code)?,

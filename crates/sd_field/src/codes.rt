@@ -10,7 +10,7 @@ use sd_option::kinds::{
     IPV6_MULTICAST, IPV6_SD_ENDPOINT, LOAD_BALANCING, Role,
 };
 
-// The family of an address.
+// The family of an address. (No `From`: see `code_of`.)
 fn family_of(address: IpAddress) -> Family
     ensures { family_said result ≡ (address_said address).family }
 {

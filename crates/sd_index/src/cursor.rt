@@ -38,7 +38,7 @@ impl OptionCursor {
         read_option(settings, option_at(options, self.at))
     }
 
-    // The option at the cursor, and the cursor behind it; where it is refused, the cursor where it was.
+    // The option at the cursor, and the cursor behind it; where it is refused, the cursor where it was. (As in `sd_entry`, and so below.)
     #[tactic(auto, using(crate::proofs::StepLaws::option_fits, crate::proofs::StepLaws::option_gave, crate::proofs::StepLaws::option_kept))]
     pub fn next(self, settings: Settings, options: &[u8]) -> Step<OptionHead, OptionCursor>
         ensures { OptionStepped (settings_said settings) options.now self.at.0 result }
@@ -87,7 +87,8 @@ impl RunCursor {
         look_up(options, table, count, self.next)
     }
 
-    // The run's next option, and the cursor behind it; where it is refused, the cursor where it was.
+    // The run's next option, and the cursor behind it; where it is refused, the cursor where it was. The count stands beside the table, as C lends
+    // both.
     #[tactic(auto, using(crate::proofs::StepLaws::run_some, crate::proofs::StepLaws::run_counted, crate::proofs::StepLaws::run_gave, crate::proofs::StepLaws::run_kept))]
     pub fn next(self, options: &[u8], table: &[u16], count: usize) -> Step<Found, RunCursor>
         ensures { RunStepped options.now table.now count (run_said self) result }

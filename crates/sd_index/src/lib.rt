@@ -19,7 +19,7 @@ pub const SLOTS: usize = 347;
 // The options length that a payload can have at most.
 pub const MAX_OPTIONS_LEN: usize = 1388;
 
-// An option's place in the count.
+// An option's place in the count, and its byte offset: two structs, so that none is taken for the other, as the rules' paper has it.
 #[derive(Clone, Copy)]
 pub struct Ordinal(pub usize);
 

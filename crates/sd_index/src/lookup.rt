@@ -22,8 +22,8 @@ pub fn option_at(options: &[u8], offset: Offset) -> &[u8]
     options.get(offset.0..).unwrap_or(&[])
 }
 
-// The option of number `ordinal` among `count`, which stands beside the table since C lends both: 20 at or past the count; 21 past the table's 347 slots or the slots that were lent, and
-// where no option stands at the slot's offset, its configuration string not scanned again.
+// The option of number `ordinal` among `count`, which stands beside the table as C lends both: 20 at or past the count; 21 past the table's 347 slots
+// or the slots that were lent, and where no option stands at the slot's offset, its configuration string not scanned again.
 #[tactic(auto, using(crate::proofs::FoundLaws::past_count, crate::proofs::FoundLaws::past_slots, crate::proofs::FoundLaws::past_table))]
 pub fn look_up(
     options: &[u8],

@@ -10,7 +10,7 @@ use std::net::{Ipv4Addr, Ipv6Addr};
 // More than the items that a configuration string, or the options that a run, has at most.
 const MOST: usize = 1400;
 
-// A payload's options with the table of where they begin, and how many there are.
+// A payload's options with the table of where they begin, and how many there are, as `look_up` asks for them.
 #[derive(Clone, Copy)]
 pub struct Options<'a> {
     pub bytes: &'a [u8],

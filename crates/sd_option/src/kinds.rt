@@ -28,6 +28,7 @@ pub struct KindRow {
     pub has_protocol: bool, // beside an address
 }
 
+// A constant table, and matches on the type byte, here and below: the rules' paper names these forms.
 pub const KINDS: [KindRow; 8] = [
     KindRow {
         code: CONFIGURATION,

@@ -36,7 +36,7 @@ pub struct SdPayload {
     pub options: usize,
 }
 
-// The flags of byte 0, whose other bits are ignored.
+// The flags of byte 0, whose other bits are ignored. (No `From`: a byte is more than its flags.)
 #[tactic(auto, using(crate::proofs::FlagsByName::flags_by_mask))]
 fn flags_of(byte: u8) -> SdHeaderFlags
     ensures { result ≡ flags_laid (flags byte) }
@@ -48,7 +48,8 @@ fn flags_of(byte: u8) -> SdHeaderFlags
     }
 }
 
-// The sizes, the options, 10, the entries. Each answer is taken apart by `let .. else`, here and below: the rules' paper names this form.
+// The sizes, the options, 10, the entries. Each answer is taken apart by `let .. else`, here and below: the rules' paper names this form. (347 slots are
+// asked for, here and below, since a closure is handed the whole table, as `read_options` is.)
 #[tactic(auto, using(crate::proofs::SizeLaws::there))]
 fn read_parts(settings: Settings, payload: &[u8], table: &mut [u16]) -> Result<SdPayload, Refusal>
     requires { 347 ≤ length table.old }

@@ -12,7 +12,8 @@ mod options; // options.rt: options, runs and tables in a sum
 mod step; // step.rt: one record
 mod tally; // tally.rt: what agreed, counted and printed
 
-// Replays a file that is open, and prints what came of it.
+// Replays a file that is open, and prints what came of it. (`tp_replay` makes the same few calls, with other things lent to a record; one function for
+// both would be no plainer.)
 fn report(rt: &impl Print, from: &mut impl Read) {
     let Some(total) = records(from, *b"VIADSD01") else {
         out(rt, "not a list of recorded payloads\n");
@@ -29,7 +30,7 @@ fn report(rt: &impl Print, from: &mut impl Read) {
         }
         agrees
     });
-    tally::print(rt, &counts);
+    print::tally(rt, &tally::LINES, &counts);
     match first {
         Some(n) => out(rt, format_args!("the first that does not is record: {n}\n")),
         None => out(rt, "none that does not\n"),

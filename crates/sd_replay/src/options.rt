@@ -51,7 +51,7 @@ pub(crate) struct RunSum {
 pub(crate) fn sum_of_run(
     options: &[u8],
     table: &[u16],
-    count: usize,
+    count: usize, // beside the table, as C lends both
     start: u8,
     left: u8,
 ) -> RunSum {

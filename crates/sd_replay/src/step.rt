@@ -11,18 +11,18 @@ use replay::{argument, byte, check, input, recorded, same};
 // What a record's input is, as its byte 0 says.
 #[derive(Clone, Copy)]
 pub(crate) enum Kind {
-    Payload = 1,
-    Message = 2,
-    Index = 3,
-    Entry = 4,
-    Option = 5,
-    String = 6,
-    Lookup = 7,
-    Run = 8,
+    Payload,
+    Message,
+    Index,
+    Entry,
+    Option,
+    String,
+    Lookup,
+    Run,
 }
 
 impl TryFrom<u8> for Kind {
-    type Error = ();
+    type Error = (); // a record with another byte does not agree, and no more is said
 
     fn try_from(code: u8) -> Result<Kind, ()> {
         match code {
@@ -109,7 +109,7 @@ fn option_agrees(record: &[u8]) -> bool {
     told(record, option.answer) && check(record, 0) == sum_of_option(option)
 }
 
-// How many options an options part has that the index accepts with no setting on; none where it does not.
+// How many options an options part has that the index accepts with no setting on; 0 where it does not, and the look-up is then among none.
 fn count_of(options: &[u8], table: &mut [u16]) -> usize {
     let answer = viaductle_index(options, table, 0);
     if answer.number != 0 {

@@ -1,10 +1,10 @@
 // What agreed, counted by kind and by answer: a refusal at its number, a string's error and the kinds at places of their own.
-use print::out;
 use replay::{byte, count, recorded};
 
 // How many places there are: 0 to 23 for answers, from 30 on for the kinds, from 40 on for the six errors of a string, and the last for all.
 pub(crate) const PLACES: usize = 50;
 
+// Places among the counts: numbers, since a record's own byte or number is a place too.
 const KINDS: u8 = 30;
 
 const STRINGS: u8 = 40;
@@ -12,7 +12,7 @@ const STRINGS: u8 = 40;
 const RECORDS: u8 = 49;
 
 // The lines: a place, and what is counted there.
-const LINES: [(u8, &str); 36] = [
+pub(crate) const LINES: [(u8, &str); 36] = [
     (KINDS + 1, "payloads"),
     (KINDS + 2, "messages with SD header"),
     (KINDS + 3, "options parts for the index"),
@@ -70,12 +70,4 @@ pub(crate) fn add(record: &[u8], counts: &mut [u32]) {
     count(counts, within(KINDS, byte(record, 0) as u64));
     count(counts, place_of(record));
     count(counts, RECORDS);
-}
-
-// Prints all counts; `tp_replay` has the same over a table of its own length.
-pub(crate) fn print(rt: &impl Print, counts: &[u32]) {
-    for (place, text) in LINES {
-        let n = counts.get(place as usize).copied().unwrap_or(0);
-        out(rt, format_args!("{text}: {n}\n"));
-    }
 }

@@ -4,12 +4,12 @@ use hub::tp::viaductle_complete;
 use print::out;
 use refusal::Numbers;
 use tp_machine::TpRange;
-use tp_pieces::{ROOM, Streams, last};
+use tp_pieces::{ROOM, Streams, WORDS, last};
 use tp_range::MAX_RANGES;
 use tp_stream::TpStream;
 
 // A stream of limit 64 that holds 0 to 32, with this end, and the same in words: made by hand, as no run makes it.
-fn made(rt: &impl Print, end: u32) -> Streams<ROOM> {
+fn made(rt: &impl Print, end: u32) -> Streams<ROOM, WORDS, ROOM> {
     out(
         rt,
         format_args!("made by hand, limit 64, 0 to 32 held, end {end}; "),
@@ -29,7 +29,7 @@ fn made(rt: &impl Print, end: u32) -> Streams<ROOM> {
 }
 
 // Whether a stream is complete, here and by the exported function.
-fn whether_complete(rt: &impl Print, streams: &Streams<ROOM>) {
+fn whether_complete(rt: &impl Print, streams: &Streams<ROOM, WORDS, ROOM>) {
     let complete = tp_stream::complete(streams.here);
     let said = Numbers::new(0, &[u64::from(complete)]);
     let told = viaductle_complete(&streams.words);

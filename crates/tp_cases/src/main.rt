@@ -7,7 +7,7 @@ ghost use Rattle.std.specs.Prelude.{◌≤◌};
 
 use case_lines::Exported;
 use print::out;
-use tp_pieces::{Came, Piece, ROOM, Streams, last, more};
+use tp_pieces::{Came, Piece, ROOM, Streams, WORDS, last, more};
 
 mod ends; // ends.rt: an end behind the data held
 
@@ -15,7 +15,12 @@ mod ends; // ends.rt: an end behind the data held
 const MUCH_ROOM: usize = 2128;
 
 // So many segments of 16 bytes come, with gaps of 16 between them, the first at `first`; prints whether all are accepted.
-fn come_apart(rt: &impl Print, streams: &mut Streams<MUCH_ROOM>, first: u16, segments: u16)
+fn come_apart(
+    rt: &impl Print,
+    streams: &mut Streams<MUCH_ROOM, WORDS, MUCH_ROOM>,
+    first: u16,
+    segments: u16,
+)
     requires { (first ≤ 16) × (segments ≤ 64) }
 {
     out(
@@ -40,7 +45,7 @@ fn come_apart(rt: &impl Print, streams: &mut Streams<MUCH_ROOM>, first: u16, seg
 
 // A case of these pieces.
 fn case(rt: &impl Print, limit: u32, pieces: &[Piece]) {
-    let mut streams = Streams::<ROOM>::begun(rt, limit);
+    let mut streams = Streams::<ROOM, WORDS, ROOM>::begun(rt, limit);
     for piece in pieces {
         streams.comes(rt, *piece);
     }
@@ -49,7 +54,7 @@ fn case(rt: &impl Print, limit: u32, pieces: &[Piece]) {
 
 // 64 ranges are held: one more gets 35; one that joins two of them is accepted, and then the one more is.
 fn full(rt: &impl Print) {
-    let mut streams = Streams::<MUCH_ROOM>::begun(rt, 2112);
+    let mut streams = Streams::<MUCH_ROOM, WORDS, MUCH_ROOM>::begun(rt, 2112);
     come_apart(rt, &mut streams, 0, 64);
     for piece in [more(2048, 16), more(16, 16), more(2048, 16)] {
         streams.comes(rt, piece);
@@ -59,7 +64,7 @@ fn full(rt: &impl Print) {
 
 // Every second of 128 segments, and then the others: complete.
 fn odd_even(rt: &impl Print) {
-    let mut streams = Streams::<MUCH_ROOM>::begun(rt, 2112);
+    let mut streams = Streams::<MUCH_ROOM, WORDS, MUCH_ROOM>::begun(rt, 2112);
     come_apart(rt, &mut streams, 0, 64);
     streams.comes(rt, last(2032, 16));
     come_apart(rt, &mut streams, 16, 63);

@@ -24,6 +24,7 @@ pub(crate) fn survey(stream: Ready<'_>, new: TpRange) -> Option<Found>
     let mut low: usize = 0;
     let mut before: usize = 0;
     let mut behind: usize = 0;
+    // by place: pieces of three words would be no plainer
     for i in 0..stream.count() {
         let r = stream.range_at(i);
         if (r.start as usize) < low || tp_rules::bad_range(r.end, accepted, r) {

@@ -70,7 +70,7 @@ fn shift(words: &mut Words, to: usize, from: usize, many: usize)
     }
 }
 
-// `grown` behind the ranges before it, and those behind it up to `count` behind that.
+// `grown` behind the ranges before it, and those behind it up to `count` behind that: a count of ranges, which stands in the words.
 pub(crate) fn place(words: &mut Words, count: usize, found: Found, grown: TpRange)
     requires { (found.before ≤ found.behind) × (found.behind ≤ count) × (count ≤ most) × ((found.before < found.behind) ⊎ (count < most)) }
     ensures { words.new ≡ spread words.old (placed (ranges_in words.old most) (take found.before (ranges_in words.old most) ++ (grown ∷ drop found.behind (take count (ranges_in words.old most))))) }

@@ -76,7 +76,7 @@ impl<'a> Ready<'a> {
         top_of(self.words)
     }
 
-    // The range at place i.
+    // The range at place i, which is asked to be one where it is used.
     pub(crate) fn range_at(self, i: usize) -> TpRange
         requires { i < most }
         ensures { result ≡ range_at self.entry.words.now i }

@@ -3,7 +3,7 @@
 #![tactic(auto)]
 
 ghost use Rattle.std.specs.Prelude.{◌+◌, ◌%◌, ◌≡◌, true, false, cond, take, replicate};
-ghost use Rattle.tp_words.specs.Words.{size, put};
+ghost use Rattle.tp_words.specs.Words.{put};
 ghost use Rattle.tp_pieces.specs.Pieces.{size as type_size, offset, bytes, numbers, Begun, Brought, CameTo, Comes, Takes};
 
 use case_lines::{Exported, Judged};
@@ -13,7 +13,7 @@ use print::out;
 use refusal::{Numbers, Refusal};
 use std::fmt;
 use tp_stream::TpStream;
-use tp_words::WORDS;
+pub use tp_words::WORDS;
 
 // Room for a report of 64 bytes of payload.
 pub const ROOM: usize = 80;
@@ -89,7 +89,7 @@ impl fmt::Display for Piece {
     }
 }
 
-// A verdict's number and values.
+// A verdict's number and values. (No `From`: both types are another crate's. `case_lines::said` promises nothing.)
 pub fn said_of(verdict: Result<(), Refusal>) -> Numbers
     ensures { result ≡ numbers verdict }
 {
@@ -106,28 +106,29 @@ pub struct Came {
     pub told: Answer,
 }
 
-// A stream over a buffer, and the exported one: its words, over another buffer.
+// A stream over a buffer, and the exported one: its words, over another buffer. The words may be too few or more than a state has, and the buffers of two
+// sizes.
 #[derive(Drop)]
-pub struct Streams<const N: usize> {
+pub struct Streams<const N: usize, const W: usize, const M: usize> {
     pub here: TpStream,
     pub buf: [u8; N],
-    pub words: [u32; WORDS],
-    pub other: [u8; N],
+    pub words: [u32; W],
+    pub other: [u8; M],
 }
 
-impl<const N: usize> Streams<N> {
+impl<const N: usize, const W: usize, const M: usize> Streams<N, W, M> {
     // A stream that was made by hand, and the same in words.
     pub fn made(here: TpStream) -> Self
         ensures stream { result.here ≡ here }
-        ensures words { result.words ≡ put (replicate size 0) here }
+        ensures words { result.words ≡ put (replicate W 0) here }
     {
-        let mut words = [0; WORDS];
+        let mut words = [0; W];
         tp_words::put(&mut words, here);
         Streams {
             here,
             buf: [0; N],
             words,
-            other: [0; N],
+            other: [0; M],
         }
     }
 
@@ -142,13 +143,13 @@ impl<const N: usize> Streams<N> {
 
     // The same in words of zeros.
     pub fn begun(rt: &impl Print, limit: u32) -> Self
-        ensures { Begun limit (replicate size 0) result.here result.words }
+        ensures { Begun limit (replicate W 0) result.here result.words }
     {
         let mut streams = Streams {
             here: tp_stream::begin(limit).after,
             buf: [0; N],
-            words: [0; WORDS],
-            other: [0; N],
+            words: [0; W],
+            other: [0; M],
         };
         streams.begin(rt, limit);
         streams

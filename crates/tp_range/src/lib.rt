@@ -82,7 +82,7 @@ pub fn join(ranges: [TpRange; MAX_RANGES], count: usize, new: TpRange) -> Option
     ensures { result ≡ joined_in ranges count new }
 {
     let mut out = ranges;
-    let mut kept = 0;
+    let mut kept = 0; // where the next one goes: they move up in an array of their own
     let mut grown = new;
     for r in held(&ranges, count) {
         if touches(new, *r) {

@@ -12,7 +12,7 @@ mod state; // state.rt: whether a stream is as recorded
 mod step; // step.rt: one record
 mod tally; // tally.rt: what agreed, counted and printed
 
-// Replays a file that is open, and prints what came of it.
+// Replays a file that is open, and prints what came of it: as in `sd_replay`.
 fn report(rt: &impl Print, from: &mut impl Read) {
     let Some(total) = records(from, *b"VIADTP01") else {
         out(rt, "not a list of recorded segments\n");
@@ -30,7 +30,7 @@ fn report(rt: &impl Print, from: &mut impl Read) {
         }
         agrees
     });
-    tally::print(rt, &counts);
+    print::tally(rt, &tally::LINES, &counts);
     match first {
         Some(n) => out(rt, format_args!("the first that does not is record: {n}\n")),
         None => out(rt, "none that does not\n"),

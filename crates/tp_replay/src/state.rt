@@ -4,7 +4,7 @@ use hub::tp::{viaductle_complete, viaductle_count, viaductle_range, viaductle_ta
 use replay::check;
 use tp_range::MAX_RANGES;
 
-// The word at a place; 0 past the end.
+// The word at a place; 0 past the end. (`replay::byte` is the same one line for bytes.)
 pub(crate) fn word(words: &[u32], place: usize) -> u32 {
     words.get(place).copied().unwrap_or(0)
 }

@@ -8,13 +8,13 @@ use tp_stream::LAST_NUMBER;
 // What a record does: a stream begins, a segment comes, or the stream is cleared.
 #[derive(Clone, Copy)]
 pub(crate) enum Kind {
-    Begin = 16,
-    Segment = 17,
-    Clear = 18,
+    Begin,
+    Segment,
+    Clear,
 }
 
 impl TryFrom<u8> for Kind {
-    type Error = ();
+    type Error = (); // a record with another byte does not agree, and no more is said
 
     fn try_from(code: u8) -> Result<Kind, ()> {
         match code {
@@ -26,7 +26,7 @@ impl TryFrom<u8> for Kind {
     }
 }
 
-// Whether an answer is the recorded one.
+// Whether an answer is the recorded one: as in `sd_replay`.
 fn told(record: &[u8], answer: Answer) -> bool {
     same(recorded(record), answer.number, answer.values)
 }

@@ -1,11 +1,11 @@
 // What agreed, counted by its answer: at a refusal's number, and for the rest at places of their own.
 use crate::step::Kind;
-use print::out;
 use replay::{byte, check, count};
 
 // How many places there are, and those that are no refusal's number.
 pub(crate) const PLACES: usize = 44;
 
+// Places among the counts, as in `sd_replay`.
 const ACCEPTED: u8 = 0;
 
 const NOT_COMPLETE: u8 = 37;
@@ -19,7 +19,7 @@ const REPORTS: u8 = 42;
 const RECORDS: u8 = 43;
 
 // The lines: a place, and what is counted there.
-const LINES: [(u8, &str); 10] = [
+pub(crate) const LINES: [(u8, &str); 10] = [
     (BEGUN, "streams begun"),
     (ACCEPTED, "segments accepted"),
     (30, "segments refused with 30, not a segment"),
@@ -55,12 +55,4 @@ pub(crate) fn add(record: &[u8], counts: &mut [u32]) {
     count(counts, place_of(record));
     count(counts, place_of_taking(record));
     count(counts, RECORDS);
-}
-
-// Prints all counts.
-pub(crate) fn print(rt: &impl Print, counts: &[u32]) {
-    for (place, text) in LINES {
-        let n = counts.get(place as usize).copied().unwrap_or(0);
-        out(rt, format_args!("{text}: {n}\n"));
-    }
 }

@@ -77,6 +77,7 @@ pub fn begin(limit: u32) -> Step<(), TpStream>
 pub fn consume(s: TpStream, seg: &[u8], buf: &mut [u8]) -> Step<(), TpStream>
     ensures { Ran s seg.now buf.old result buf.new }
 {
+    // not by `map` and `unwrap_or`, which is no plainer
     match accept(s, seg, buf) {
         Ok(after) => Step {
             answer: Ok(()),

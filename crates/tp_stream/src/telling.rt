@@ -43,6 +43,7 @@ fn nearest(from: u32, first: Option<TpRange>, r: TpRange) -> Option<TpRange>
 fn first_from(held: &[TpRange], from: u32) -> Option<TpRange>
     ensures { in_hand result ≡ first_from from held.now }
 {
+    // not by `min_by_key`, whose promise is of keys and not of the ranges
     held.iter()
         .rev()
         .fold(None, |first, r| nearest(from, first, *r))

@@ -47,7 +47,7 @@ fn outside() -> TpStream
     }
 }
 
-// The range at place i, behind the first five words.
+// The range at place i, behind the first five words. `tp_lent` has the same: see there.
 fn range_at(words: &Words, i: usize) -> TpRange
     requires { i < most }
     ensures { result ≡ range_at words.now i }
@@ -65,6 +65,7 @@ fn held_in(words: &Words) -> TpStream
     ensures { result ≡ held_in words.now }
 {
     let mut ranges = [UNUSED; MAX_RANGES];
+    // by place, which is no longer than pieces of three words
     for (i, range) in ranges.iter_mut().enumerate() {
         *range = range_at(words, i);
     }
@@ -98,6 +99,7 @@ pub fn stream_of(words: &[u32]) -> TpStream
 fn put_ranges(words: &mut Words, ranges: &[TpRange; MAX_RANGES])
     ensures { words.new ≡ take 5 words.old ++ flat ranges.now }
 {
+    // by place: of what an iterator over pieces of the words wrote nothing is known
     for (i, r) in ranges.iter().enumerate() {
         let at = FRONT_WORDS + RANGE_WORDS * i;
         words[at] = r.start;
