@@ -1,6 +1,5 @@
 -- The calls over lent words, from what is done in place and from what the calls by value promise. Assumes nothing.
 use Rattle.std.specs.Array.{IsFirstChunk}
-use Rattle.refusal.specs.declared.answers.Step.{Step}
 use Rattle.std.specs.Prelude.{Ok, Err, Option, None, ℕ}
 use Prim.Native.Nat.{ℕ, ◌≤◌}
 use mathlib.Core.Path.{◌≡◌, sym, ap, ap₂, ◌∙◌}
@@ -9,13 +8,10 @@ use mathlib.Core.List.{List, ◌∷◌, ◌++◌}
 use native.Mathlib.Omega.{arith}
 use lib.ListN.{length, drop, get_or}
 use Rattle.numbers.specs.Refusals.{malformed_state}
-use Rattle.numbers.specs.Answers.{accepted, pass}
-use Rattle.numbers.specs.Answers as paper
+use Rattle.numbers.specs.Answers.{pass}
 use Rattle.numbers.proofs.AnswerLaws.{when_hit, when_pass}
 use Rattle.numbers.proofs.TestLaws.{and_inv}
-use Rattle.refusal.specs.declared.Refusal.{Refusal}
 use Rattle.refusal.specs.declared.Refusal.TheVariants.{MalformedState}
-use Rattle.refusal.specs.Said.{verdict_said}
 use Rattle.tp_machine.specs.declared.TpRange.{TpRange}
 use Rattle.tp_machine.specs.Machine.{most, bad_range, Out, judged, taken, step, clear}
 use Rattle.tp_machine.specs.Taking.{complete, ready}
@@ -25,7 +21,6 @@ use Rattle.tp_rules.specs.Taking.{one_whole, one_ready}
 use Rattle.tp_rules.proofs.TakingLaws.{complete_one, ready_one}
 use Rattle.tp_stream.specs.declared.TpStream.{TpStream}
 use Rattle.tp_stream.specs.Stream.{view, stored}
-use Rattle.tp_stream.specs.Promises.{seen, Ran}
 use Rattle.tp_stream.proofs.StreamLaws.{cleared}
 use Rattle.tp_words.specs.Words.{size, range_at, ranges_in, end_of, unfit, held_in, stream_of, state_of, flat, words_of, put}
 use Rattle.tp_words.proofs.WordLaws.{in_length}
@@ -44,25 +39,6 @@ use Rattle.tp_lent.proofs.FrontLaws.{first_front}
 module _ (ws seg buf : List ℕ) where
   abbrev out : Out
   out = step (state_of ws) seg buf
-
-  -- by value: what was seen is what the machine left of the words' state
-  module _ (s : TpStream) (is : s ≡ stream_of ws) (r : (Step (Unit {0}) TpStream)) (buf' : List ℕ) (ran : Ran s seg buf r buf') (ws' : List ℕ) where
-    steps : seen r buf' ≡ out
-    steps = ran.steps ∙ ap (λ (t : TpStream). step (view t) seg buf) is
-
-    joins : ws' ≡ kept ws out.answer out.state → Joins ws seg buf r.answer ws' buf'
-    joins w = record { answers = ap (λ (o : Out). o.answer) steps; words = w; buffer = ap (λ (o : Out). o.buffer) steps }
-
-    pub joined_by_value : r.answer ≡ (Ok tt) → ws' ≡ put ws r.after → Joins ws seg buf r.answer ws' buf'
-    joined_by_value e w =
-        joins (
-        w
-        ∙ ap (put ws) (ran.places ∙ ap (λ (t : TpStream). stored t (view r.after)) is)
-        ∙ ap₂ {C = List ℕ} (kept ws) (ap verdict_said (sym e) ∙ ap (λ (o : Out). o.answer) steps) (ap (λ (o : Out). o.state) steps)
-        )
-
-    pub refused_by_value : (q : Refusal) → r.answer ≡ Err q → ws' ≡ ws → Joins ws seg buf r.answer ws' buf'
-    refused_by_value q e w = joins (w ∙ ap (λ (v : paper.Verdict). kept ws v out.state) (ap verdict_said (sym e) ∙ ap (λ (o : Out). o.answer) steps))
 
   -- in place, in the first words: the machine accepts it
   pub joined_in_place : (f : List ℕ) → IsFirstChunk ws f size → (plan : Plan) → Planned f seg (length buf) plan → (f' buf' : List ℕ) → CarriedOut f seg buf f' buf' → Joins ws seg buf (Ok tt) (f' ++ drop size ws) buf'

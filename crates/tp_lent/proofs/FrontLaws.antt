@@ -1,7 +1,6 @@
 -- Laws of the first words of many: as many as a state has hold the state that all of them hold. Assumes nothing.
-use Rattle.std.proofs.Common.{ℕ, ◌<◌, ◌≡◌, sym, ap, ◌∙◌, arith, false, cond, not, ◌&&◌, ◌||◌, List, ◌++◌, length, take, drop, ltb, eqb, le_refl}
+use Rattle.std.proofs.Common.{ℕ, ◌≡◌, sym, ap, ◌∙◌, arith, cond, not, ◌&&◌, ◌||◌, List, ◌++◌, take, drop, ltb, eqb, le_refl}
 use lib.Seq.{drop-append-le}
-use borrow.Author.Tests.{lt-ltb}
 use Rattle.std.specs.Array.{IsFirstChunk}
 use Rattle.tp_machine.specs.Machine.{most, highest, bad_range}
 use Rattle.tp_range.specs.Ordered.{rising}
@@ -9,11 +8,6 @@ use Rattle.tp_stream.specs.Stream.{view}
 use Rattle.tp_words.specs.Words.{size}
 use Rattle.tp_words.proofs.FirstLaws.{first_length, first_word, first_whole, first_ranges, first_unfit, first_stream}
 use Rattle.tp_lent.specs.Lent.{top_of, unready, in_order}
-
--- words that are too few are not in order
-module _ (ws : List ℕ) where
-  pub short_out : length ws < size → in_order ws ≡ false
-  short_out h = rw (lt-ltb (length ws) size h)
 
 module _ (ws f : List ℕ) (is : IsFirstChunk ws f size) where
   first_top : top_of f ≡ top_of ws

@@ -28,13 +28,6 @@ paste_part ws part to from n h e =
     ap₂ {C = List ℕ} (λ (l : List ℕ) (k : ℕ). take to ws ++ l ++ drop (to + k) ws) e (sym long)
     ∙ append_assoc (take to ws) (take n (drop from ws)) (drop (to + length (take n (drop from ws))) ws)
 
--- ---- four words behind the first
-pub put_four : (ws : List ℕ) (a b c d : ℕ) (b' c' : ℕ) → 5 ≤ length ws → b ≡ b' → c ≡ c' → set (set (set (set ws 1 a) 2 b) 3 c) 4 d ≡ get_or ws 0 0 ∷ a ∷ b' ∷ c' ∷ d ∷ drop 5 ws
-put_four ws a b c d b' c' h p q =
-    sets-eq (a ∷ b ∷ c ∷ d ∷ []) ws 1 h
-    ∙ ap (λ (l : List ℕ). (l ++ (a ∷ b ∷ c ∷ d ∷ [])) ++ drop 5 ws) (take-suc ws 0 0 (omega arith))
-    ∙ ap₂ {C = List ℕ} (λ (x y : ℕ). get_or ws 0 0 ∷ a ∷ x ∷ y ∷ d ∷ drop 5 ws) p q
-
 -- ---- the range at place i is the words' own
 pub ranges_at : (ws : List ℕ) (n i : ℕ) → i < n → get_or (ranges_in ws n) i none ≡ range_at ws i
 unfolding ranges_in
@@ -78,10 +71,6 @@ module _ (ws : List ℕ) (enough : size ≤ length ws) where
 
   pub spread_behind : (rs : List TpRange) → drop 5 (spread ws rs) ≡ flat rs ++ drop size ws
   spread_behind rs = drop_at (take 5 ws) (flat rs ++ drop size ws) 5 (length-take-le 5 ws (omega arith))
-
-  pub spread_length : (rs : List TpRange) → length rs ≡ most → length (spread ws rs) ≡ length ws
-  spread_length rs h =
-      omega (arith, length-append (take 5 ws) (flat rs ++ drop size ws), length-append (flat rs) (drop size ws), flat_length rs, length-drop size ws, length-take-le 5 ws (omega arith))
 
   -- ---- in front of place i, and from it on
   abbrev front : ℕ → List ℕ

