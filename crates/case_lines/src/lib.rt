@@ -2,7 +2,10 @@
 // told something else than the public one, the line says so.
 #![tactic(auto)]
 
-ghost use Rattle.std.specs.Prelude.{◌≤◌};
+ghost use Rattle.std.specs.Prelude.{◌≡◌, cond};
+ghost use Rattle.case_lines.specs.Told.{numbers};
+ghost use Rattle.hub.specs.Settings.{settings_of};
+ghost use Rattle.sd_option.specs.Settings.{settings_said};
 
 use hub::answers::Answer;
 use hub::payload::{viaductle_read, viaductle_read_message};
@@ -26,19 +29,23 @@ pub const STRICT: Settings = Settings {
 
 // A bit's value where it is set; by a test, so that the sum of a few is seen to fit.
 fn bit(set: bool, value: u32) -> u32
-    ensures { result ≤ value }
+    ensures { result ≡ cond set value 0 }
 {
     if set { value } else { 0 }
 }
 
 // The word by which C tells settings.
-pub fn word(settings: Settings) -> u32 {
+pub fn word(settings: Settings) -> u32
+    ensures { settings_of result ≡ settings_said settings }
+{
     bit(settings.discard_unknown_option, hub::settings::DISCARD)
         + bit(settings.strict, hub::settings::STRICT)
 }
 
 // What a public function said, as numbers: accepted, with the values that it gives, or the refusal.
-pub fn said<const N: usize>(answer: Result<[u64; N], Refusal>) -> Numbers {
+pub fn said<const N: usize>(answer: Result<[u64; N], Refusal>) -> Numbers
+    ensures { result ≡ numbers answer.entry }
+{
     match answer {
         Ok(values) => Numbers::new(0, &values),
         Err(refusal) => Numbers::from(refusal),

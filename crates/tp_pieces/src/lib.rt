@@ -6,7 +6,7 @@ ghost use Rattle.std.specs.Prelude.{◌+◌, ◌%◌, ◌≡◌, true, false, co
 ghost use Rattle.tp_words.specs.Words.{put};
 ghost use Rattle.tp_pieces.specs.Pieces.{size as type_size, offset, bytes, numbers, Begun, Brought, CameTo, Comes, Takes};
 
-use case_lines::{Exported, Judged};
+use case_lines::{Exported, Judged, said};
 use hub::answers::Answer;
 use hub::tp::{viaductle_begin, viaductle_consume, viaductle_take};
 use print::out;
@@ -89,14 +89,11 @@ impl fmt::Display for Piece {
     }
 }
 
-// A verdict's number and values. (No `From`: both types are another crate's. `case_lines::said` promises nothing.)
+// A verdict's number and values. (No `From`: both types are another crate's.)
 pub fn said_of(verdict: Result<(), Refusal>) -> Numbers
     ensures { result ≡ numbers verdict }
 {
-    match verdict {
-        Ok(()) => Numbers::new(0, &[]),
-        Err(refusal) => Numbers::from(refusal),
-    }
+    said(verdict.map(|()| []))
 }
 
 // What is said of a segment that came, here and by the exported function.
