@@ -1,6 +1,6 @@
 -- A record's numbers as bytes, the first record that does not agree, and when two answers are alike. Assumes nothing.
-use mathlib.Core.Path.{◌≡◌, refl, ap, ◌∙◌}
-use mathlib.Core.Bool.{Bool, true, false, ◌&&◌, false≢true}
+use mathlib.Core.Path.{◌≡◌, refl, sym, ap, ◌∙◌}
+use mathlib.Core.Bool.{Bool, true, false, not, ◌&&◌, false≢true}
 use mathlib.Core.List.{List, [], ◌∷◌, ◌++◌}
 use Prim.Native.Nat.{ℕ, ◌+◌, ◌*◌, ◌/◌, ◌%◌, ◌^◌, ◌<◌}
 use native.Mathlib.Omega.{arith}
@@ -15,7 +15,7 @@ use Rattle.std.specs.Option.{option_or}
 use Rattle.std.specs.Int.{to_be_bytes, w32}
 use Rattle.std.specs.Cmp.Lexicographic.{pointwise}
 use Rattle.std.proofs.lemmas.Bool.Decides.{Decides-eqb}
-use Rattle.std.proofs.lemmas.Slice.Eq.{slice_eq-Decides, starts_is}
+use Rattle.std.proofs.lemmas.Slice.Eq.{slice_eq-Decides}
 use Rattle.numbers.specs.Bytes.{be16, be32, at16, at32}
 use Rattle.replay.specs.Counts.{first_false}
 use Rattle.replay.specs.Records.{AlikeExactly}
@@ -35,9 +35,13 @@ number_bytes n small =
     let d : n % 256 ≡ n % 65536 % 256 = omega arith in
     λ i. a i ∷ b i ∷ c i ∷ d i ∷ []
 
--- what begins with a name, and what stands behind it
-pub begins : (name s : List ℕ) (n : ℕ) → length name ≡ n → pointwise eqb name (take (length name) s) ≡ true → s ≡ name ++ drop n s
-begins name s n long e = (starts_is Decides-eqb s name _ refl).0 e ∙ ap (λ (k : ℕ). name ++ drop k s) long
+-- bytes that do not differ from a name are that name
+pub named : (s name : List ℕ) → not (pointwise eqb s name) ≡ false → s ≡ name
+named s name e = (slice_eq-Decides Decides-eqb s name (pointwise eqb s name) refl).0 (alike (pointwise eqb s name) e)
+  where
+    alike : (b : Bool) → not b ≡ false → b ≡ true
+    alike true h = refl
+    alike false h = absurd (false≢true (sym h))
 
 -- ---- the first that does not agree, with one more behind
 

@@ -1,5 +1,5 @@
 // The file of records: opened, how many it has, a record out of it, and all of them.
-ghost use Rattle.std.specs.Prelude.{◌≡◌, ◌≤◌, ◌++◌, Bool, List, ℕ, length, take, IfSome, ◌<◌};
+ghost use Rattle.std.specs.Prelude.{◌≡◌, ◌≤◌, ◌++◌, ⊤, Bool, List, ℕ, length, take, IfSome, ◌<◌};
 ghost use Rattle.std.specs.Io.KnownBytes.{Consumes};
 ghost use Rattle.std.specs.List.{FoldsTo};
 ghost use Rattle.numbers.specs.Bytes.{at32};
@@ -77,33 +77,43 @@ pub fn next_record(from: &mut impl Read, buf: &mut [u8]) -> usize
     if fill(from, record) < n { 0 } else { n }
 }
 
-// How many records the file has, which begins with this name and that number, in eight bytes each; none where another name stands there.
+// How many records the file has, which begins with this name and that number, in eight bytes each; none where another name stands there, and then no
+// byte behind it is asked for. Of a number that is cut short the bytes that are not there count as 0.
 pub fn records<R: Read>(from: &mut R, name: [u8; 8]) -> Option<u32>
-    ensures { IfSome result (λ n. (came : ℕ) × (rest : List ℕ) × Consumes (R.remaining from.old) (R.remaining from.new) (take came (name ++ rest)) × (n ≡ at32 rest 0)) }
+    ensures { IfSome result (λ n. (told : List ℕ) × Consumes (R.remaining from.old) (R.remaining from.new) (name ++ told) × (n ≡ at32 told 0)) }
 {
-    let mut head = [0u8; 16];
-    fill(from, &mut head);
-    if !head.starts_with(&name) {
+    let mut begins = [0u8; 8];
+    if fill(from, &mut begins) < begins.len() || begins != name {
         return None;
     }
-    Some(number(&head, 8))
+    let mut told = [0u8; 8];
+    let came = fill(from, &mut told);
+    Some(number(&told[..came], 0))
+}
+
+// Who says of each record whether it agrees. (No closure: a call of one would have to be asked for.)
+pub trait Judge {
+    // Relates the judge before a record, the record, the answer, and the judge after it.
+    ghost judges: { Self → List ℕ → Bool → Self → Type 0 } = { λ _ _ _ _. ⊤ };
+
+    fn agrees(&mut self, record: &[u8]) -> bool
+        ensures { judges self.old record.now result self.new };
 }
 
 // All records of the file, each handed on; which is the first that does not agree, counted from 1.
-pub fn replay_all<R: Read, F: FnMut(&[u8]) -> bool>(
+pub fn replay_all<R: Read, J: Judge>(
     from: &mut R,
     total: u32,
     record: &mut [u8],
-    mut agrees: F,
+    judge: &mut J,
 ) -> Option<u32>
-    requires { F.IsAlwaysCallable agrees }
     ensures within { IfSome result (λ n. (0 < n) × (n ≤ total)) }
-    ensures first { (answers : List Bool) × (last : F) × (length answers ≡ total) × FoldsTo (λ f answer g. (x : _) × F.step f x answer g) agrees answers last × (result ≡ first_false 1 answers) }
+    ensures first { (answers : List Bool) × (length answers ≡ total) × FoldsTo (λ j answer k. (x : List ℕ) × J.judges j x answer k) judge.old answers judge.new × (result ≡ first_false 1 answers) }
 {
     let mut first = None;
     for before in 0..total {
         let n = next_record(from, record);
-        if !agrees(&record[..n]) {
+        if !judge.agrees(&record[..n]) {
             first = first.or(Some(before + 1));
         }
     }

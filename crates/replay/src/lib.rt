@@ -8,6 +8,6 @@ mod record;
 mod sum;
 
 pub use counts::count;
-pub use file::{next_record, open_first, records, replay_all};
+pub use file::{Judge, next_record, open_first, records, replay_all};
 pub use record::{argument, byte, check, input, number, recorded, same};
 pub use sum::{add_byte, add_bytes, add_number};

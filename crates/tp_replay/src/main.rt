@@ -4,13 +4,31 @@
 #![tactic(auto)]
 
 use print::out;
-use replay::{open_first, records, replay_all};
+use replay::{Judge, open_first, records, replay_all};
 use std::io::Read;
 use tp_words::WORDS;
 
 mod state; // state.rt: whether a stream is as recorded
 mod step; // step.rt: one record
 mod tally; // tally.rt: what agreed, counted and printed
+
+// What is lent to each record, and what agreed.
+#[derive(Clone, Copy)]
+struct Replay {
+    words: [u32; WORDS],
+    buffer: [u8; 4112],
+    counts: [u32; tally::PLACES],
+}
+
+impl Judge for Replay {
+    fn agrees(&mut self, record: &[u8]) -> bool {
+        let agrees = step::agrees(record, &mut self.words, &mut self.buffer);
+        if agrees {
+            tally::add(record, &mut self.counts);
+        }
+        agrees
+    }
+}
 
 // Replays a file that is open, and prints what came of it: as in `sd_replay`.
 fn report(rt: &impl Print, from: &mut impl Read) {
@@ -20,17 +38,13 @@ fn report(rt: &impl Print, from: &mut impl Read) {
     };
     out(rt, format_args!("records: {total}\n"));
     let mut record = [0; 2048];
-    let mut words = [0; WORDS];
-    let mut buffer = [0; 4112];
-    let mut counts = [0; tally::PLACES];
-    let first = replay_all(from, total, &mut record, |record| {
-        let agrees = step::agrees(record, &mut words, &mut buffer);
-        if agrees {
-            tally::add(record, &mut counts);
-        }
-        agrees
-    });
-    print::tally(rt, &tally::LINES, &counts);
+    let mut replay = Replay {
+        words: [0; WORDS],
+        buffer: [0; 4112],
+        counts: [0; tally::PLACES],
+    };
+    let first = replay_all(from, total, &mut record, &mut replay);
+    print::tally(rt, &tally::LINES, &replay.counts);
     match first {
         Some(n) => out(rt, format_args!("the first that does not is record: {n}\n")),
         None => out(rt, "none that does not\n"),

@@ -1,20 +1,14 @@
--- `replay::file::records` meets its contract: what came begins with the name. Assumes nothing.
+-- `replay::file::records` meets its contract: the name came, and behind it the number. Assumes nothing.
 use mathlib.Core.Path.{◌≡◌, sym, ◌∙◌, subst}
-use mathlib.Core.List.{List}
-use Prim.Native.Nat.{ℕ}
 use native.Mathlib.Omega.{arith}
-use lib.ListN.{length, take, drop}
+use lib.ListN.{take}
+use lib.Seq.{take_all}
 use Rattle.std.specs.Io.KnownBytes.{Consumes}
-use Rattle.numbers.proofs.ByteLaws.{at32_drop}
-use Rattle.replay.proofs.Laws.{begins}
+use Rattle.std.proofs.KnownBytes.{Consumes-trans}
+use Rattle.replay.proofs.Laws.{named}
 use Rattle.replay.proofs.file.records.Goals as goal
 
 pub returns : goal.returns
 returns g c =
-    let eight : length c.args.name ≡ 8 = omega arith in
-    let name = begins c.args.name c.fill.new.buf 8 eight (sym c.starts_with.ensures.value ∙ c.if-not-starts_with.false) in (
-      c.fill.result,
-      drop 8 c.fill.new.buf,
-      subst (λ (s : List ℕ). Consumes (g.R.Read.remaining c.args.from.now) (g.R.Read.remaining c.fill.new.from) (take c.fill.result s)) name c.fill.ensures.bytes,
-      c.number.ensures ∙ sym (at32_drop c.fill.new.buf 8),
-    )
+    let name : take c.fill.result c.fill.new.buf ≡ c.args.name = take_all _ _ (omega arith) ∙ named _ _ (sym c.ne.ensures ∙ c.if-ne.false) in
+    (take c.fill-came.result c.fill-came.new.buf, Consumes-trans _ _ _ _ _ (subst (Consumes _ _) name c.fill.ensures.bytes) c.fill-came.ensures.bytes, c.number.ensures)

@@ -2,7 +2,7 @@
 use mathlib.Core.Path.{refl, ◌∙◌}
 use Prim.Native.Nat.{◌+◌}
 use native.Mathlib.Omega.{arith}
-use borrow.Author.Rules.{rules, of_calls}
+use borrow.Author.Rules.{rules}
 use Rattle.replay.proofs.Laws.{answered, first_agrees, first_differs}
 use Rattle.replay.proofs.file.replay_all.Goals as goal
 use Rattle.replay.proofs.file.replay_all.Goals.{then-not-agrees, else-not-agrees}
@@ -11,7 +11,6 @@ pub loop-before-preserved : goal.loop-before-preserved
 loop-before-preserved g c =
     let one_more = answered _ _ _ _ _ _ c.if-not-agrees.first c.agrees.result c.loop-before.invariant.first (_, c.agrees.ensures) in
     record {
-      callable = search of_calls;
       within = search rules;
       first =
           elim c.if-not-agrees.branch [
