@@ -89,9 +89,16 @@ impl fmt::Display for Judged {
     }
 }
 
+// A line begins with what was read, by its name: any bytes, as they are.
+fn named(rt: &impl Print, name: &[u8]) {
+    let _ = rt.write_all(name);
+    out(rt, ": ");
+}
+
 // A line: what was read, and that it was accepted or refused.
-pub fn answer(rt: &impl Print, name: &str, said: Numbers, told: Answer) {
-    out(rt, format_args!("{name}: {}\n", Judged { said, told }));
+pub fn answer(rt: &impl Print, name: &[u8], said: Numbers, told: Answer) {
+    named(rt, name);
+    out(rt, format_args!("{}\n", Judged { said, told }));
 }
 
 // The flags that are set.
@@ -124,14 +131,15 @@ fn counted(p: SdPayload) -> Numbers {
 }
 
 // A line of a payload, or of a message with one: what was accepted is told too.
-fn reading(rt: &impl Print, name: &str, read: Result<SdPayload, Refusal>, told: Answer) {
+fn reading(rt: &impl Print, name: &[u8], read: Result<SdPayload, Refusal>, told: Answer) {
     match read {
         Ok(p) => {
             let said = counted(p);
+            named(rt, name);
             out(
                 rt,
                 format_args!(
-                    "{name}: accepted{}, entries {}, options {}{}\n",
+                    "accepted{}, entries {}, options {}{}\n",
                     Flags(p.flags),
                     p.entries,
                     p.options,
@@ -144,7 +152,7 @@ fn reading(rt: &impl Print, name: &str, read: Result<SdPayload, Refusal>, told: 
 }
 
 // A payload is read.
-pub fn payload(rt: &impl Print, name: &str, payload: &[u8], settings: Settings) {
+pub fn payload(rt: &impl Print, name: &[u8], payload: &[u8], settings: Settings) {
     let mut table = [0u16; SLOTS];
     let read = read_payload(settings, payload, &mut table);
     let told = viaductle_read(payload, &mut table, word(settings));
@@ -152,7 +160,7 @@ pub fn payload(rt: &impl Print, name: &str, payload: &[u8], settings: Settings) 
 }
 
 // A message is read: as above, by two calls of other names, which a closure each would not make plainer.
-pub fn message(rt: &impl Print, name: &str, message: &[u8], settings: Settings) {
+pub fn message(rt: &impl Print, name: &[u8], message: &[u8], settings: Settings) {
     let mut table = [0u16; SLOTS];
     let read = read_message(settings, message, &mut table);
     let told = viaductle_read_message(message, &mut table, word(settings));

@@ -6,8 +6,8 @@ use sd_option::PLAIN;
 
 // A payload of no entries with an option, twelve bytes and the option; and one with another option of four bytes in front of it.
 fn case(rt: &impl Print, name: &str, first: &[u8], later: &[u8]) {
-    payload(rt, name, first, PLAIN);
-    payload(rt, "the same behind another option", later, PLAIN);
+    payload(rt, name.as_bytes(), first, PLAIN);
+    payload(rt, b"the same behind another option", later, PLAIN);
 }
 
 // Each error of a string: of its end and its items' lengths, and of its keys.

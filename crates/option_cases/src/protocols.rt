@@ -25,8 +25,8 @@ fn both(rt: &impl Print, code: u8, protocol: u8, bytes: &[u8]) {
         rt,
         format_args!("option {code:#04x} with protocol {protocol:#04x}"),
     );
-    payload(rt, ", strict", bytes, STRICT);
-    payload(rt, "the same, not strict", bytes, PLAIN);
+    payload(rt, b", strict", bytes, STRICT);
+    payload(rt, b"the same, not strict", bytes, PLAIN);
 }
 
 // The six kinds that have an address: endpoint, multicast and SD endpoint.
@@ -43,25 +43,25 @@ fn kinds(rt: &impl Print, protocol: u8) {
 fn order(rt: &impl Print) {
     payload(
         rt,
-        "protocol 0x99 in front of an option below its whole length",
+        b"protocol 0x99 in front of an option below its whole length",
         b"\x00\x00\x00\x00\x00\x00\x00\x00\x00\x00\x00\x10\x00\x09\x04\x00\xc0\xa8\x01\x01\x00\x99\x1f\x90\x00\x05\x77\x00",
         STRICT,
     );
     payload(
         rt,
-        "protocol 0x99 in an option of another length than its kind's",
+        b"protocol 0x99 in an option of another length than its kind's",
         b"\x00\x00\x00\x00\x00\x00\x00\x00\x00\x00\x00\x0d\x00\x0a\x04\x00\xc0\xa8\x01\x01\x00\x99\x1f\x90\x00",
         STRICT,
     );
     payload(
         rt,
-        "protocol 0x99 behind an unknown option that may not be discarded",
+        b"protocol 0x99 behind an unknown option that may not be discarded",
         b"\x00\x00\x00\x00\x00\x00\x00\x00\x00\x00\x00\x10\x00\x01\x77\x00\x00\x09\x04\x00\xc0\xa8\x01\x01\x00\x99\x1f\x90",
         STRICT,
     );
     payload(
         rt,
-        "protocol 0x99 beside an unknown entry",
+        b"protocol 0x99 beside an unknown entry",
         b"\x00\x00\x00\x00\x00\x00\x00\x10\x02\x00\x00\x00\x00\x00\x00\x00\x00\x00\x00\x00\x00\x00\x00\x00\x00\x00\x00\x0c\x00\x09\x04\x00\xc0\xa8\x01\x01\x00\x99\x1f\x90",
         STRICT,
     );

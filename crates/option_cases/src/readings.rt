@@ -11,7 +11,7 @@ use sd_option::reading::read_option;
 fn alone(rt: &impl Print, name: &str, option: &[u8], settings: Settings) {
     let said = said(read_option(settings, option).map(|_| []));
     let told = viaductle_read_option(option, word(settings));
-    answer(rt, name, said, told.answer);
+    answer(rt, name.as_bytes(), said, told.answer);
 }
 
 // An option at a place among others, by the cursor.
@@ -21,7 +21,7 @@ fn by_cursor(rt: &impl Print, name: &str, options: &[u8], at: usize, settings: S
     let said = said(read.map(|head| [head.code as u64, at as u64, head.size as u64]));
     answer(
         rt,
-        name,
+        name.as_bytes(),
         said,
         viaductle_next_option(options, at, word(settings)),
     );
@@ -33,7 +33,7 @@ fn in_index(rt: &impl Print, name: &str, options: &[u8], settings: Settings) {
     let said = said(sd_index::read_index(settings, options, &mut table).map(|n| [n as u64]));
     answer(
         rt,
-        name,
+        name.as_bytes(),
         said,
         viaductle_index(options, &mut table, word(settings)),
     );
@@ -60,13 +60,13 @@ pub(crate) fn by_all(rt: &impl Print, name: &str, bytes: &[u8], settings: Settin
     );
     payload(
         rt,
-        "the same in a payload, behind another option",
+        b"the same in a payload, behind another option",
         &bytes[16..],
         settings,
     );
     message(
         rt,
-        "the same in a message, behind another option",
+        b"the same in a message, behind another option",
         bytes,
         settings,
     );

@@ -12,32 +12,32 @@ mod parts; // parts.rt: what is told of a payload's parts
 // A configuration string.
 fn string(rt: &impl Print, name: &str, s: &[u8]) {
     let said = said(config_string::check_string(s).map(|()| []));
-    answer(rt, name, said, hub::options::viaductle_string(s));
+    answer(rt, name.as_bytes(), said, hub::options::viaductle_string(s));
 }
 
 // The cases of sizes: of the whole, and of its parts.
 fn sizes(rt: &impl Print) {
-    payload(rt, "payload, 12 zero bytes", &[0; 12], PLAIN);
-    payload(rt, "payload, 11 zero bytes", &[0; 11], PLAIN);
-    payload(rt, "payload, 13 zero bytes", &[0; 13], PLAIN);
+    payload(rt, b"payload, 12 zero bytes", &[0; 12], PLAIN);
+    payload(rt, b"payload, 11 zero bytes", &[0; 11], PLAIN);
+    payload(rt, b"payload, 13 zero bytes", &[0; 13], PLAIN);
 }
 
 fn sizes_of_parts(rt: &impl Print) {
     payload(
         rt,
-        "payload, 12 bytes with entries length 17",
+        b"payload, 12 bytes with entries length 17",
         &cases::twelve(17),
         PLAIN,
     );
     payload(
         rt,
-        "payload, 12 bytes with entries length 16",
+        b"payload, 12 bytes with entries length 16",
         &cases::twelve(16),
         PLAIN,
     );
     payload(
         rt,
-        "payload, 28 bytes with entries length 16 and options length 1388",
+        b"payload, 28 bytes with entries length 16 and options length 1388",
         &cases::long_options(),
         PLAIN,
     );
@@ -45,17 +45,17 @@ fn sizes_of_parts(rt: &impl Print) {
 
 // The cases of a whole payload.
 fn whole(rt: &impl Print) {
-    payload(rt, "payload, the rules' whole one", &cases::WHOLE, PLAIN);
+    payload(rt, b"payload, the rules' whole one", &cases::WHOLE, PLAIN);
     parts::parts(rt, &cases::WHOLE);
     payload(
         rt,
-        "the same with run 1 from 1",
+        b"the same with run 1 from 1",
         &cases::whole_with(1, 0x10),
         PLAIN,
     );
     payload(
         rt,
-        "the same with empty runs, run 1 from 200",
+        b"the same with empty runs, run 1 from 200",
         &cases::whole_with(200, 0),
         PLAIN,
     );
@@ -63,15 +63,15 @@ fn whole(rt: &impl Print) {
 
 // The cases of unknown options.
 fn unknown(rt: &impl Print) {
-    payload(rt, "option 00017780", &cases::unknown(0x80), PLAIN);
-    payload(rt, "option 00017700", &cases::unknown(0), PLAIN);
+    payload(rt, b"option 00017780", &cases::unknown(0x80), PLAIN);
+    payload(rt, b"option 00017700", &cases::unknown(0), PLAIN);
     payload(
         rt,
-        "option 00017700 when discarding",
+        b"option 00017700 when discarding",
         &cases::unknown(0),
         DISCARDING,
     );
-    payload(rt, "347 options of four bytes", &cases::many(), PLAIN);
+    payload(rt, b"347 options of four bytes", &cases::many(), PLAIN);
 }
 
 // The cases of configuration strings: where they end, their keys, and what does not fit.

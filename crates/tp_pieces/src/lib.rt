@@ -103,8 +103,119 @@ pub struct Came {
     pub told: Answer,
 }
 
-// A stream over a buffer, and the exported one: its words, over another buffer. The words may be too few or more than a state has, and the buffers of two
-// sizes.
+// ---- a stream over a buffer, and the exported one: its words, over another buffer; all of any lengths
+
+// Both begin, in the same words; prints the limit.
+pub fn begun(rt: &impl Print, limit: u32, words: &mut [u32]) -> TpStream
+    ensures { Begun limit words.old result words.new }
+{
+    out(rt, format_args!("limit {limit}; "));
+    viaductle_begin(words, limit);
+    tp_stream::begin(limit).after
+}
+
+// One segment comes, to both; hands back the stream after it.
+pub fn brought(
+    s: TpStream,
+    buf: &mut [u8],
+    words: &mut [u32],
+    other: &mut [u8],
+    segment: &[u8],
+) -> (Came, TpStream)
+    ensures { Brought segment.now s buf.old words.old other.old result.0 result.1 buf.new words.new other.new }
+{
+    let step = tp_stream::consume(s, segment, buf);
+    let came = Came {
+        said: said_of(step.answer),
+        told: viaductle_consume(words, segment, other),
+    };
+    (came, step.after)
+}
+
+// The segment of a piece comes.
+pub fn consumed(
+    s: TpStream,
+    buf: &mut [u8],
+    words: &mut [u32],
+    other: &mut [u8],
+    piece: Piece,
+) -> (Came, TpStream)
+    ensures { CameTo piece s buf.old words.old other.old result.0 result.1 buf.new words.new other.new }
+{
+    let bytes = segment(piece);
+    brought(s, buf, words, other, &bytes[..20 + size(piece) as usize])
+}
+
+// The same; prints it with the answer.
+pub fn answered(
+    rt: &impl Print,
+    s: TpStream,
+    buf: &mut [u8],
+    words: &mut [u32],
+    other: &mut [u8],
+    piece: Piece,
+) -> TpStream
+    ensures { Comes piece s buf.old words.old other.old result buf.new words.new other.new }
+{
+    let (Came { said, told }, after) = consumed(s, buf, words, other, piece);
+    out(rt, format_args!("{piece}: {}", Judged { said, told }));
+    after
+}
+
+// The same, and more comes on the line.
+pub fn comes(
+    rt: &impl Print,
+    s: TpStream,
+    buf: &mut [u8],
+    words: &mut [u32],
+    other: &mut [u8],
+    piece: Piece,
+) -> TpStream
+    ensures { Comes piece s buf.old words.old other.old result buf.new words.new other.new }
+{
+    let after = answered(rt, s, buf, words, other, piece);
+    out(rt, "; ");
+    after
+}
+
+// The message is taken; prints what it has, and ends the line.
+pub fn taken(rt: &impl Print, s: TpStream, buf: &mut [u8], words: &[u32], other: &mut [u8])
+    ensures { Takes s buf.old words.now other.old buf.new other.new }
+{
+    let answer = tp_stream::take(s, buf);
+    let told = viaductle_take(words, other);
+    match answer {
+        Ok(_) => {
+            let report = tp_stream::report(s, buf);
+            let said = Numbers::new(0, &[report.len() as u64]);
+            out(
+                rt,
+                format_args!(
+                    "complete, a report of {} bytes with length field {}{}\n",
+                    report.len(),
+                    length_field(report),
+                    Exported { said, told }
+                ),
+            );
+        }
+        Err(refusal) => {
+            let said = Numbers::from(refusal);
+            out(rt, format_args!("taking: {}\n", Judged { said, told }));
+        }
+    }
+}
+
+// The length field of a report, or 0 where that has none.
+fn length_field(report: &[u8]) -> u32 {
+    match report {
+        [_, _, _, _, a, b, c, d, ..] => u32::from_be_bytes([*a, *b, *c, *d]),
+        _ => 0,
+    }
+}
+
+// ---- the same, all in one
+
+// Both, with their buffers. The words may be too few or more than a state has, and the buffers of two sizes.
 #[derive(Drop)]
 pub struct Streams<const N: usize, const W: usize, const M: usize> {
     pub here: TpStream,
@@ -118,6 +229,7 @@ impl<const N: usize, const W: usize, const M: usize> Streams<N, W, M> {
     pub fn made(here: TpStream) -> Self
         ensures stream { result.here ≡ here }
         ensures words { result.words ≡ put (replicate W 0) here }
+        ensures buffers { (result.buf ≡ replicate N 0) × (result.other ≡ replicate M 0) }
     {
         let mut words = [0; W];
         tp_words::put(&mut words, here);
@@ -131,95 +243,90 @@ impl<const N: usize, const W: usize, const M: usize> Streams<N, W, M> {
 
     // Both begin, in the same words; prints the limit.
     pub fn begin(&mut self, rt: &impl Print, limit: u32)
-        ensures { Begun limit self.old.words self.new.here self.new.words }
+        ensures begins { Begun limit self.old.words self.new.here self.new.words }
+        ensures buffers { (self.new.buf ≡ self.old.buf) × (self.new.other ≡ self.old.other) }
     {
-        out(rt, format_args!("limit {limit}; "));
-        viaductle_begin(&mut self.words, limit);
-        self.here = tp_stream::begin(limit).after;
+        self.here = begun(rt, limit, &mut self.words);
     }
 
     // The same in words of zeros.
     pub fn begun(rt: &impl Print, limit: u32) -> Self
-        ensures { Begun limit (replicate W 0) result.here result.words }
+        ensures begins { Begun limit (replicate W 0) result.here result.words }
+        ensures buffers { (result.buf ≡ replicate N 0) × (result.other ≡ replicate M 0) }
     {
-        let mut streams = Streams {
-            here: tp_stream::begin(limit).after,
+        let mut words = [0; W];
+        let here = begun(rt, limit, &mut words);
+        Streams {
+            here,
             buf: [0; N],
-            words: [0; W],
+            words,
             other: [0; M],
-        };
-        streams.begin(rt, limit);
-        streams
+        }
     }
 
     // One segment comes, to both.
     pub fn brought(&mut self, segment: &[u8]) -> Came
         ensures { Brought segment.now self.old.here self.old.buf self.old.words self.old.other result self.new.here self.new.buf self.new.words self.new.other }
     {
-        let step = tp_stream::consume(self.here, segment, &mut self.buf);
-        self.here = step.after;
-        Came {
-            said: said_of(step.answer),
-            told: viaductle_consume(&mut self.words, segment, &mut self.other),
-        }
+        let (came, after) = brought(
+            self.here,
+            &mut self.buf,
+            &mut self.words,
+            &mut self.other,
+            segment,
+        );
+        self.here = after;
+        came
     }
 
     // The segment of a piece comes.
     pub fn consumed(&mut self, piece: Piece) -> Came
         ensures { CameTo piece self.old.here self.old.buf self.old.words self.old.other result self.new.here self.new.buf self.new.words self.new.other }
     {
-        let bytes = segment(piece);
-        self.brought(&bytes[..20 + size(piece) as usize])
+        let (came, after) = consumed(
+            self.here,
+            &mut self.buf,
+            &mut self.words,
+            &mut self.other,
+            piece,
+        );
+        self.here = after;
+        came
     }
 
     // The same; prints it with the answer.
     pub fn answered(&mut self, rt: &impl Print, piece: Piece)
         ensures { Comes piece self.old.here self.old.buf self.old.words self.old.other self.new.here self.new.buf self.new.words self.new.other }
     {
-        let Came { said, told } = self.consumed(piece);
-        out(rt, format_args!("{piece}: {}", Judged { said, told }));
+        self.here = answered(
+            rt,
+            self.here,
+            &mut self.buf,
+            &mut self.words,
+            &mut self.other,
+            piece,
+        );
     }
 
     // The same, and more comes on the line.
     pub fn comes(&mut self, rt: &impl Print, piece: Piece)
         ensures { Comes piece self.old.here self.old.buf self.old.words self.old.other self.new.here self.new.buf self.new.words self.new.other }
     {
-        self.answered(rt, piece);
-        out(rt, "; ");
+        self.here = comes(
+            rt,
+            self.here,
+            &mut self.buf,
+            &mut self.words,
+            &mut self.other,
+            piece,
+        );
     }
 
     // The message is taken; prints what it has, and ends the line.
     pub fn taken(&mut self, rt: &impl Print)
-        ensures { Takes self.old.here self.old.buf self.old.words self.old.other self.new.buf self.new.other }
+        ensures takes { Takes self.old.here self.old.buf self.old.words self.old.other self.new.buf self.new.other }
+        ensures kept { (self.new.here ≡ self.old.here) × (self.new.words ≡ self.old.words) }
     {
-        let answer = tp_stream::take(self.here, &mut self.buf);
-        let told = viaductle_take(&self.words, &mut self.other);
-        match answer {
-            Ok(_) => {
-                let report = tp_stream::report(self.here, &self.buf);
-                let said = Numbers::new(0, &[report.len() as u64]);
-                out(
-                    rt,
-                    format_args!(
-                        "complete, a report of {} bytes with length field {}{}\n",
-                        report.len(),
-                        length_field(report),
-                        Exported { said, told }
-                    ),
-                );
-            }
-            Err(refusal) => {
-                let said = Numbers::from(refusal);
-                out(rt, format_args!("taking: {}\n", Judged { said, told }));
-            }
-        }
-    }
-}
-
-// The length field of a report, or 0 where that has none.
-fn length_field(report: &[u8]) -> u32 {
-    match report {
-        [_, _, _, _, a, b, c, d, ..] => u32::from_be_bytes([*a, *b, *c, *d]),
-        _ => 0,
+        taken(rt, self.here, &mut self.buf, &self.words, &mut self.other);
     }
 }
