@@ -8,6 +8,7 @@ ghost use Rattle.sd_index.specs.Indexed.{Sweeps, Indexed, indexed};
 
 use crate::lookup::option_at;
 use crate::permission::permission_of;
+use crate::slots::clear_slots;
 use crate::{MAX_OPTIONS_LEN, Offset, Ordinal, SLOTS};
 use refusal::{Refusal, moved};
 use sd_option::Settings;
@@ -47,13 +48,13 @@ fn read_into(settings: Settings, options: &[u8], slots: &mut [u16; SLOTS]) -> Re
     ensures told { count_said result ≡ given length (indexed (settings_said settings) options.now) }
     ensures left { slots.new ≡ filled (indexed (settings_said settings) options.now) }
 {
-    slots.fill(0);
+    clear_slots(slots);
     if MAX_OPTIONS_LEN < options.len() {
         return Err(Refusal::IndexTooLarge(options.len()));
     }
     let answer = sweep(settings, options, slots);
     if answer.is_err() {
-        slots.fill(0);
+        clear_slots(slots);
     }
     answer
 }

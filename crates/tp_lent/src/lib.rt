@@ -66,12 +66,11 @@ pub fn take(words: &[u32], buf: &mut [u8]) -> Result<usize, Refusal>
 pub fn clear(words: &mut [u32]) -> Result<(), Refusal>
     ensures { Cleared words.old result words.new }
 {
-    let Some(first) = words.first_chunk_mut() else {
-        return Err(Refusal::MalformedState);
-    };
-    if unfit(first) {
+    if unfit(words) {
         return Err(Refusal::MalformedState);
     }
-    planning::put_front(first, 0, None, 0);
+    if let Some(first) = words.first_chunk_mut() {
+        planning::put_front(first, 0, None, 0); // words that are not unfit are enough
+    }
     Ok(())
 }

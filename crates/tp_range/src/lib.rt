@@ -92,13 +92,13 @@ pub fn join(ranges: [TpRange; MAX_RANGES], count: usize, new: TpRange) -> Option
             kept += 1;
         }
     }
-    if MAX_RANGES <= kept {
-        return None;
+    if kept < MAX_RANGES {
+        return Some(Joined {
+            ranges: insert(out, kept, grown),
+            count: kept + 1,
+        });
     }
-    Some(Joined {
-        ranges: insert(out, kept, grown),
-        count: kept + 1,
-    })
+    None
 }
 
 // Whether each begins behind the end of the one before it, and none ends before it begins: then no two touch.

@@ -68,11 +68,10 @@ loop-r-preserved c =
       | else-touches w ↦ rw (w.out-is, w.kept-is, w.grown-is) (apart _ _ _ _ _ _ _ (grind (arith, common_steps)) c.loop-r.invariant h (sym c.touches.ensures ∙ w.if-touches.false))
     ]
 
-pub returns-then-kept-ge-MAX_RANGES : goal.returns-then-kept-ge-MAX_RANGES
-returns-then-kept-ge-MAX_RANGES c =
-    without _ c.args.ranges _ _ _ _ _ (grind (arith, common_steps)) c.loop-r.invariant c.args.count c.loop-r-test.false c.held-r-items.ensures (search rules) c.if-kept-ge-MAX_RANGES.true
+pub returns-then-kept-lt-MAX_RANGES : goal.returns-then-kept-lt-MAX_RANGES
+returns-then-kept-lt-MAX_RANGES c =
+    ap (λ (l : List TpRange). Some (record { ranges = l; count = c.loop-r.kept + 1 })) c.insert.ensures
+    ∙ with_place _ c.args.ranges _ _ _ _ _ (grind (arith, common_steps)) c.loop-r.invariant c.args.count c.loop-r-test.false c.held-r-items.ensures (search rules) (omega arith)
 
 pub returns : goal.returns
-returns c =
-    ap (λ (l : List TpRange). Some (record { ranges = l; count = c.loop-r.kept + 1 })) c.insert.ensures
-    ∙ with_place _ c.args.ranges _ _ _ _ _ (grind (arith, common_steps)) c.loop-r.invariant c.args.count c.loop-r-test.false c.held-r-items.ensures (search rules) c.if-kept-ge-MAX_RANGES.false
+returns c = without _ c.args.ranges _ _ _ _ _ (grind (arith, common_steps)) c.loop-r.invariant c.args.count c.loop-r-test.false c.held-r-items.ensures (search rules) (omega arith)
