@@ -2,6 +2,7 @@ pub mod TpLaws
 pub mod AnyOrder
 pub mod ToldLaws
 pub mod FieldLaws
+pub mod ItemLaws
 pub mod PlaceLaws
 pub mod OneOutcome
 pub mod Telling

@@ -70,6 +70,10 @@ module _ (ws : List ℕ) (limit : ℕ) where
         state = λ k. ap state_of words ∙ words_hold.stored_back ws blank (begin limit) h refl (omega arith);
       }
 
+-- an acceptance told as one
+pub passed : {v : Result (Unit {0}) Refusal} {a : Answer} → v ≡ Ok tt → a ≡ row 0 [] → a ≡ told no_values (verdict_said v)
+passed e told-so = told-so ∙ sym (ap (λ (v : Result (Unit {0}) Refusal). told no_values (verdict_said v)) e)
+
 -- ---- one segment
 
 module _ (ws seg buf : List ℕ) where
@@ -101,6 +105,9 @@ module _ (ws seg buf : List ℕ) where
       }
 
 -- ---- complete, and taking
+
+pub completed : (ws : List ℕ) (b t : Bool) (r : Answer) → b ≡ complete (state_of ws) → b ≡ t → r ≡ row 0 (one_value (cond t 1 0)) → r ≡ completes ws
+completed ws b t r e k q = q ∙ ap (λ (x : Bool). row 0 (one_value (cond x 1 0))) (sym k ∙ e)
 
 -- the report that the machine gives stands in front
 in_front : (p : State) (buf : List ℕ) (end : ℕ) → (taking p buf).answer ≡ paper.accepted end → InFront p buf end (taking p buf).buffer

@@ -54,11 +54,11 @@ pub read_short : (s : List ℕ) → length s < 16 → read_entry s ≡ refused (
 unfolding read_entry
 read_short s h = when_hit _ _ _ (lt-ltb (length s) 16 h)
 
-read_typed : (s : List ℕ) → 16 ≤ length s → read_entry s ≡ by_type (get_or s 0 0) s
+pub read_typed : (s : List ℕ) → 16 ≤ length s → read_entry s ≡ by_type (get_or s 0 0) s
 unfolding read_entry
 read_typed s h = when_pass _ _ _ (le-ltb (length s) 16 h)
 
-read_long : (s : List ℕ) (e : Entry) → read_entry s ≡ accepted e → 16 ≤ length s
+pub read_long : (s : List ℕ) (e : Entry) → read_entry s ≡ accepted e → 16 ≤ length s
 unfolding read_entry
 read_long s e p = ltb-false (length s) 16 (when_accepted _ _ _ e p).0
 
@@ -127,7 +127,7 @@ one_of_two low t a b = go (eqb t low) refl
     go false e = let d = eqb-false t low e in inr (omega arith)
 
 module _ (n : ℕ) (s : List ℕ) where
-  placed_refused : (r : Refusal) → read_entry s ≡ refused r → verdict (placed_entry n s) ≡ refused r
+  pub placed_refused : (r : Refusal) → read_entry s ≡ refused r → verdict (placed_entry n s) ≡ refused r
   unfolding placed_entry ◌>>=◌ given
   placed_refused r p = rw p
 
@@ -142,7 +142,9 @@ module _ (n : ℕ) (s : List ℕ) where
   placed_read e p said h =
       ap verdict (bind_pass (read_entry s) _ e (read_typed s h ∙ p)) ∙ verdict_then (runs_of n (head_of e)) e ∙ ap (runs_of n) said
 
-  placed_known : 16 ≤ length s → (get_or s 0 0 < 2) ⊎ ((6 ≤ get_or s 0 0) × (get_or s 0 0 < 8)) → verdict (placed_entry n s) ≡ runs_of n (head s)
+  pub placed_known : 16 ≤ length s → (get_or s 0 0 < 2) ⊎ ((6 ≤ get_or s 0 0) × (get_or s 0 0 < 8))
+      → verdict (placed_entry n s) ≡ judge_runs n (get_or s 1 0) (get_or s 3 0 / 16) (get_or s 2 0) (get_or s 3 0 % 16)
+  unfolding head
   placed_known h known =
       let typed = λ (t : ℕ) (e : get_or s 0 0 ≡ t). ap (λ (type : ℕ). by_type type s) e in
       ⊎_elim
@@ -159,11 +161,11 @@ module _ (n : ℕ) (s : List ℕ) where
   module _ (long : 16 ≤ length s) (known : (get_or s 0 0 < 2) ⊎ ((6 ≤ get_or s 0 0) × (get_or s 0 0 < 8))) where
     -- run 1 is judged before run 2
     pub placed_first : (r : Refusal) → judge_run 1 n (get_or s 1 0) (get_or s 3 0 / 16) ≡ refused r → verdict (placed_entry n s) ≡ refused r
-    unfolding head judge_runs ◌>>◌
+    unfolding judge_runs ◌>>◌
     placed_first r e = placed_known long known ∙ rw e refl
 
     pub placed_second : judge_run 1 n (get_or s 1 0) (get_or s 3 0 / 16) ≡ pass → verdict (placed_entry n s) ≡ judge_run 2 n (get_or s 2 0) (get_or s 3 0 % 16)
-    unfolding head judge_runs ◌>>◌
+    unfolding judge_runs ◌>>◌
     placed_second e = placed_known long known ∙ rw e refl
 
 -- ---- the cursor

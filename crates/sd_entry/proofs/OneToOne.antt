@@ -14,10 +14,10 @@ use lib.Dec.{eqb}
 use borrow.Author.Tests.{ne_eqb}
 use Rattle.numbers.specs.Answers.{verdict}
 use Rattle.numbers.proofs.AnswerLaws.{accepted_inj, not_refused}
-use Rattle.sd_format.specs.Entries.{Head, Group, Entry, find, offer, subscribe, subscribe_ack, head_of, read_entry, placed_entry}
+use Rattle.sd_format.specs.Entries.{Head, Group, Entry, find, offer, subscribe, subscribe_ack, head, group, head_of, read_entry, placed_entry}
 use Rattle.refusal.specs.Said.{verdict_said}
 use Rattle.refusal.proofs.OneToOne.{same_refusal, verdict_one_to_one}
-use Rattle.sd_entry.specs.Said.{head_said, entry_said, answer_said}
+use Rattle.sd_entry.specs.Said.{head_said, group_said, entry_said, answer_said}
 use Rattle.sd_entry.specs.Steps.{Stepped}
 use Rattle.sd_entry.specs.Types.{ServiceTyped, EventgroupTyped}
 use Rattle.sd_entry.specs.declared.SdServiceEntryType.{SdServiceEntryType}
@@ -74,6 +74,10 @@ pub head_one_to_one : (x y : EntryHead) → head_said x ≡ head_said y → x �
 unfolding head_back
 head_one_to_one x y same = ap head_back same
 
+pub group_one_to_one : (x y : EventGroup) → group_said x ≡ group_said y → x ≡ y
+unfolding group_back
+group_one_to_one x y same = ap group_back same
+
 pub entry_one_to_one : (x y : SdEntry) → entry_said x ≡ entry_said y → x ≡ y
 entry_one_to_one x y same = sym (back x) ∙ ap entry_back same ∙ back y
 
@@ -90,6 +94,12 @@ read_entry_only s x y p q = answer_one_to_one x y (p ∙ sym q)
 
 pub head_only : (e : SdEntry) (x y : EntryHead) → head_said x ≡ head_of (entry_said e) → head_said y ≡ head_of (entry_said e) → x ≡ y
 head_only e x y p q = head_one_to_one x y (p ∙ sym q)
+
+pub entry_head_only : (bytes : List ℕ) (x y : EntryHead) → head_said x ≡ head bytes → head_said y ≡ head bytes → x ≡ y
+entry_head_only bytes x y p q = head_one_to_one x y (p ∙ sym q)
+
+pub event_group_only : (bytes : List ℕ) (x y : EventGroup) → group_said x ≡ group bytes → group_said y ≡ group bytes → x ≡ y
+event_group_only bytes x y p q = group_one_to_one x y (p ∙ sym q)
 
 pub judge_entry_only : (n : ℕ) (s : List ℕ) (x y : (Result (Unit {0}) Refusal)) → verdict_said x ≡ verdict (placed_entry n s) → verdict_said y ≡ verdict (placed_entry n s) → x ≡ y
 judge_entry_only n s x y p q = verdict_one_to_one x y (p ∙ sym q)

@@ -1,3 +1,4 @@
 pub mod FieldLaws
 pub mod OneOutcome
 pub mod Own
+pub mod PlaceLaws

@@ -33,24 +33,25 @@ module _ (s tab : List ℕ) (count k : ℕ) where
   unfolding look_up slots given
   past_table c l h = sym (ap (by_table tab k) (when_pass _ _ _ (lt-leb count k c) ∙ when_pass _ _ _ (lt-leb 347 k l) ∙ when_hit _ _ _ (le-leb (length tab) k h)))
 
+  pub by_slot : k < count → k < 347 → k < length tab → look_up s tab count k ≡ misfit (one_option unscanned (drop (get_or tab k 0) s))
+  unfolding look_up slots
+  by_slot c l t = when_pass _ _ _ (lt-leb count k c) ∙ when_pass _ _ _ (lt-leb 347 k l) ∙ when_pass _ _ _ (lt-leb (length tab) k t)
+
   -- by the bytes at the slot's offset, read with no setting on
   module _ (c : k < count) (l : k < 347) (t : k < length tab) {at : ℕ} (slot : at ≡ get_or tab k 0) {b : List ℕ} (there : b ≡ drop at s) where
-    by_slot : look_up s tab count k ≡ misfit (one_option (protocol_verdict plain) b)
-    unfolding look_up slots
-    by_slot =
-        when_pass _ _ _ (lt-leb count k c) ∙ when_pass _ _ _ (lt-leb 347 k l) ∙ when_pass _ _ _ (lt-leb (length tab) k t)
-        ∙ sym (ap misfit (lookup_reads plain b refl ∙ ap (one_option unscanned) (there ∙ ap (λ (n : ℕ). drop n s) slot)))
+    plain_slot : look_up s tab count k ≡ misfit (one_option (protocol_verdict plain) b)
+    plain_slot = by_slot c l t ∙ sym (ap misfit (lookup_reads plain b refl ∙ ap (one_option unscanned) (there ∙ ap (λ (n : ℕ). drop n s) slot)))
 
     pub slot_fits : {h : OptionHead} → accepted h ≡ given head_of (one_option (protocol_verdict plain) b)
         → accepted (record { offset = record { 0 = at }; head = h }) ≡ look_up_told s tab count k
     unfolding given misfit
     slot_fits {h} read =
         let (f, reads, told) = given_accepted head_of (one_option (protocol_verdict plain) b) h (sym read) in
-        rw (slot, by_slot, reads) (ap (λ (h : OptionHead). accepted (record { offset = record { 0 = get_or tab k 0 }; head = h })) (sym told))
+        rw (slot, plain_slot, reads) (ap (λ (h : OptionHead). accepted (record { offset = record { 0 = get_or tab k 0 }; head = h })) (sym told))
 
     pub slot_misfits : {r : Refusal} → refused r ≡ given head_of (one_option (protocol_verdict plain) b) → refused table_misfit ≡ look_up_told s tab count k
     unfolding given misfit
-    slot_misfits {r} read = rw (by_slot, given_refused head_of (one_option (protocol_verdict plain) b) r (sym read)) refl
+    slot_misfits {r} read = rw (plain_slot, given_refused head_of (one_option (protocol_verdict plain) b) r (sym read)) refl
 
   pub found_counted : (f : Frame) → look_up s tab count k ≡ accepted f → k < count
   unfolding look_up

@@ -1,13 +1,15 @@
 -- The slots of the lent table: written one after the other, and cleared. Assumes nothing.
-use mathlib.Core.Path.{◌≡◌, ap, ◌∙◌}
+use mathlib.Core.Path.{◌≡◌, sym, ap, ◌∙◌}
 use mathlib.Core.List.{List, [], ◌∷◌, ◌++◌, append_assoc}
-use Prim.Native.Nat.{ℕ, suc, ◌+◌, ◌<◌}
+use Prim.Native.Nat.{ℕ, suc, ◌+◌, ◌-◌, ◌≤◌, ◌<◌}
 use native.Mathlib.Numerals.{add-one}
-use lib.ListN.{length, drop, get_or, set, replicate}
-use lib.Seq.{drop-cons, set_at, length-take-le}
+use native.Mathlib.Omega.{arith}
+use lib.ListN.{length, drop, get_or, set, replicate, replicate-append-replicate, drop_of_length-le}
+use lib.Seq.{drop-cons, set_at, drop_at, length-take-le}
 use borrow.Author.Tests.{lt-ltb, le-ltb}
 use Rattle.std.specs.Array.{IsFirstChunk}
 use Rattle.sd_format.specs.Frames.{slots, zeros}
+use Rattle.sd_format.proofs.TableLaws.{length_zeros}
 use Rattle.sd_index.specs.Indexed.{cleared}
 
 -- one more slot behind those that were written
@@ -32,3 +34,31 @@ unfolding cleared slots zeros
 cleared_long {tab} {first} {here} chunk filled =
     rw (le-ltb (length tab) 347 chunk.enough)
     (ap (λ (l : List ℕ). l ++ drop 347 tab) (filled_zeros first here filled (ap length chunk.same ∙ length-take-le 347 tab chunk.enough)))
+
+-- all slots are zeros then, of a table that is no more than they
+pub cleared_whole : (old here : List ℕ) → here ≡ cleared old → length old ≡ 347 → here ≡ replicate 347 0
+unfolding cleared slots zeros
+cleared_whole old here is long =
+    is
+    ∙ rw (le-ltb (length old) 347 (omega arith), drop_of_length-le old {i = 347} (omega arith))
+
+-- ---- what a cleared table holds
+
+zeros_both : (n m : ℕ) → zeros n ++ zeros m ≡ zeros (n + m)
+unfolding zeros
+zeros_both n m = replicate-append-replicate {A = ℕ} n m 0
+
+cleared_is : (tab : List ℕ) → 347 ≤ length tab → cleared tab ≡ zeros 347 ++ drop 347 tab
+unfolding cleared slots
+cleared_is tab h = rw (le-ltb (length tab) 347 h)
+
+pub past_cleared : (tab : List ℕ) → 347 ≤ length tab → drop slots (cleared tab) ≡ drop slots tab
+unfolding slots
+past_cleared tab long = ap (drop 347) (cleared_is tab long) ∙ drop_at (zeros 347) (drop 347 tab) 347 (length_zeros 347)
+
+-- behind the first `n` slots
+pub behind_cleared : (tab : List ℕ) (n : ℕ) → 347 ≤ length tab → n ≤ 347 → drop n (cleared tab) ≡ zeros (347 - n) ++ drop 347 tab
+behind_cleared tab n long few =
+    let e : n + (347 - n) ≡ 347 = omega arith in
+    ap (drop n) (cleared_is tab long ∙ ap (λ (l : List ℕ). l ++ drop 347 tab) (sym (zeros_both n (347 - n) ∙ ap zeros e)) ∙ append_assoc (zeros n) (zeros (347 - n)) (drop 347 tab))
+    ∙ drop_at (zeros n) (zeros (347 - n) ++ drop 347 tab) n (length_zeros n)

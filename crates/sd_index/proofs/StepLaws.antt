@@ -1,4 +1,5 @@
 -- The cursors' steps: what each answers, and where it stands by what it answered. Assumes nothing.
+use Rattle.std.specs.Prelude.{Result, Ok}
 use Prim.Native.Nat.{ℕ, ◌+◌, ◌-◌, ◌≤◌, ◌<◌}
 use mathlib.Core.Path.{◌≡◌, refl, sym, ap, ◌∙◌}
 use mathlib.Core.Bool.{false}
@@ -14,11 +15,12 @@ use Rattle.sd_format.specs.Settings.{Settings}
 use Rattle.sd_format.specs.Kinds.{judge_content}
 use Rattle.sd_format.specs.Sequences.{stands, next_at, behind}
 use Rattle.sd_format.specs.Frames.{Frame, size, read_option, look_up, next_option, Run, next_of_run, along}
+use Rattle.refusal.specs.declared.Refusal as refusal
 use Rattle.sd_option.specs.declared.reading.OptionHead.{OptionHead}
 use Rattle.sd_option.specs.Reading.{head_of}
 use Rattle.sd_option.proofs.ReadingLaws.{Found, found_head}
 use Rattle.sd_index.specs.declared.lookup.Found as code
-use Rattle.sd_index.specs.Found.{located, by_table, look_up_told}
+use Rattle.sd_index.specs.Found.{located, found_said, by_table, look_up_told}
 use Rattle.sd_index.proofs.FoundLaws.{found_counted}
 
 -- a cursor stands by what is told of the thing handed out where it would by the thing itself, if both move it alike
@@ -94,3 +96,9 @@ module _ (s tab : List ℕ) (count : ℕ) (r : Run) where
 
   pub run_kept : (q : Refusal) → refused q ≡ by_table tab r.next (next_of_run s tab count r) → r ≡ stands along (next_of_run s tab count r) r
   run_kept q told = stands_kept (located (get_or tab r.next 0)) along (next_of_run s tab count r) q r told
+
+-- the number of an option that was found is below the count
+pub found_below : (s tab : List ℕ) (count k : ℕ) (a : Result code.Found refusal.Refusal) (f : code.Found) → found_said a ≡ look_up_told s tab count k → a ≡ Ok f → k < count
+found_below s tab count k a f told e =
+    let (frame, reads, same) = given_accepted (located (get_or tab k 0)) (look_up s tab count k) f (sym told ∙ ap found_said e) in
+    found_counted s tab count k frame reads

@@ -126,8 +126,8 @@ module _ {g : Settings} {s tab₀ tab : List ℕ} {at n : ℕ} {v : Verdict} (t 
     among = ap (λ (n : ℕ). further n (read_option g (drop at s))) here
 
     -- it is refused alone, and `q` is what the code had of that, `r`, moved by `by` bytes
-    turn_stops : (alone r : Refusal) (by : ℕ) → read_option g (drop at s) ≡ refused alone → moved by r ≡ moved at alone → length s ≤ most
-        → (q : code.Refusal) → said q ≡ moved_capped by r → read_options g s ≡ refused (said q)
+    pub turn_stops : (alone r : Refusal) (by : ℕ) → read_option g (drop at s) ≡ refused alone → moved by r ≡ moved at alone → length s ≤ most
+        → (q : code.Refusal) → said q ≡ moved_capped by r → Sweeps g s tab₀ tab (Err q)
     unfolding read_options given further ◌>>=◌
     turn_stops alone r by e same few q is =
         let (p, there, low) = option_told g (drop at s) alone e in

@@ -86,8 +86,32 @@ module _ (g : Settings) (s : List ℕ) (n : ℕ) where
       by_row : {code : ℕ} {w : Row} → type ≡ code → row_of code ≡ w → Told w → Told (row_of type)
       by_row t is told = subst Told (sym (ap row_of t ∙ is)) told
 
+-- ---- one option, test by test, whatever judges what it holds
+
+pub frame_refused : (content : Kind → List ℕ → Verdict) (s : List ℕ) (r : Refusal) → frame s ≡ refused r → one_option content s ≡ refused r
+unfolding one_option ◌>>=◌
+frame_refused content s r e = rw e
+
+module _ (content : Kind → List ℕ → Verdict) (s : List ℕ) (n : ℕ) (t : Framed s n) where
+  kind_decides : one_option content s ≡ ((judge_length (row_of (get_or s 2 0)).len n >> content (kind_of (get_or s 2 0)) (take n (drop 3 s))) >> accepted (front s n))
+  unfolding one_option judge_kind ◌>>=◌
+  kind_decides = rw (t.reads, front_length s n t.within)
+
+  pub length_refused : (r : Refusal) → judge_length (row_of (get_or s 2 0)).len n ≡ refused r → one_option content s ≡ refused r
+  unfolding ◌>>◌
+  length_refused r e = kind_decides ∙ rw e
+
+  module _ (fits : judge_length (row_of (get_or s 2 0)).len n ≡ pass) where
+    pub content_refused : (r : Refusal) → content (kind_of (get_or s 2 0)) (take n (drop 3 s)) ≡ refused r → one_option content s ≡ refused r
+    unfolding ◌>>◌
+    content_refused r e = kind_decides ∙ rw (fits, e)
+
+    pub content_passed : content (kind_of (get_or s 2 0)) (take n (drop 3 s)) ≡ pass → one_option content s ≡ accepted (front s n)
+    unfolding ◌>>◌
+    content_passed e = kind_decides ∙ rw (fits, e)
+
 -- what is told of the option that stands in front
-front_head : (s : List ℕ) (n : ℕ) → Framed s n → (d : Bool) → d ≡ has (get_or s 3 0) 0x80 → head_of (front s n) ≡ record { code = get_or s 2 0; discardable = d; size = 3 + n }
+pub front_head : (s : List ℕ) (n : ℕ) → Framed s n → (d : Bool) → d ≡ has (get_or s 3 0) 0x80 → head_of (front s n) ≡ record { code = get_or s 2 0; discardable = d; size = 3 + n }
 front_head s n t d bit =
     let b : get_or (take n (drop 3 s)) 0 0 ≡ get_or s 3 0 = get_or-take n (drop 3 s) 0 0 t.some ∙ get_or-drop 3 s 0 0 in
     rw (b, bit, front_length s n t.within)
@@ -99,26 +123,21 @@ module _ (g : Settings) (s : List ℕ) where
   abbrev first_half : Answer OptionHead
   first_half = given head_of (one_option (protocol_verdict g) s)
 
-  pub frame_refused : {r : Refusal} → refused r ≡ given body_length (frame s) → refused r ≡ first_half
-  unfolding one_option ◌>>=◌ given
-  frame_refused {r} told = rw (given_refused body_length (frame s) r (sym told))
+  pub frame_first : {r : Refusal} → refused r ≡ given body_length (frame s) → refused r ≡ first_half
+  unfolding given
+  frame_first {r} told = rw (frame_refused (protocol_verdict g) s r (given_refused body_length (frame s) r (sym told)))
 
   module _ {n : ℕ} (frames : accepted n ≡ given body_length (frame s)) {row : KindRow} (is : row ≡ encoded (row_of (get_or s 2 0))) where
     t : Framed s n
     t = framed s n (sym frames)
 
-    kind_decides : one_option (protocol_verdict g) s
-        ≡ ((judge_length (row_of (get_or s 2 0)).len n >> protocol_verdict g (kind_of (get_or s 2 0)) (take n (drop 3 s))) >> accepted (front s n))
-    unfolding one_option judge_kind ◌>>=◌
-    kind_decides = rw (t.reads, front_length s n t.within)
-
     -- what the row asks
     length_asked : judge_length (row_of (get_or s 2 0)).len n ≡ judge_length (length_said row.exact_len) n
     length_asked = ap (λ (l : Length). judge_length l n) (sym (ap (λ (w : KindRow). length_said w.exact_len) is ∙ length_back _))
 
-    pub length_refused : {r : Refusal} → refused r ≡ judge_length (length_said row.exact_len) n → refused r ≡ first_half
-    unfolding given ◌>>◌
-    length_refused told = rw (kind_decides, length_asked, ← told)
+    pub length_first : {r : Refusal} → refused r ≡ judge_length (length_said row.exact_len) n → refused r ≡ first_half
+    unfolding given
+    length_first {r} told = rw (length_refused (protocol_verdict g) s n t r (length_asked ∙ sym told))
 
     module _ (fits : pass ≡ judge_length (length_said row.exact_len) n) where
       protocol_told : protocol_verdict g (kind_of (get_or s 2 0)) (take n (drop 3 s)) ≡ carried g row.has_protocol row.code (get_or s n 0) n
@@ -126,13 +145,14 @@ module _ (g : Settings) (s : List ℕ) where
           sym (protocol_there g s n (get_or s 2 0) (length_asked ∙ sym fits)) ∙ sym (ap (λ (w : KindRow). carried g w.has_protocol w.code (get_or s n 0) n) is)
 
       pub protocol_refused : {r : Refusal} → refused r ≡ carried g row.has_protocol row.code (get_or s n 0) n → refused r ≡ first_half
-      unfolding given ◌>>◌
-      protocol_refused told = rw (kind_decides, length_asked, ← fits, protocol_told, ← told)
+      unfolding given
+      protocol_refused {r} told = rw (content_refused (protocol_verdict g) s n t (length_asked ∙ sym fits) r (protocol_told ∙ sym told))
 
       pub head_told : pass ≡ carried g row.has_protocol row.code (get_or s n 0) n → {d : Bool} → d ≡ has (get_or s 3 0) 0x80
           → accepted (record { code = get_or s 2 0; discardable = d; size = 3 + n }) ≡ first_half
-      unfolding given ◌>>◌
-      head_told told bit = rw (kind_decides, length_asked, ← fits, protocol_told, ← told) (ap accepted (sym (front_head s n t _ bit)))
+      unfolding given
+      head_told told bit =
+          rw (content_passed (protocol_verdict g) s n t (length_asked ∙ sym fits) (protocol_told ∙ sym told)) (ap accepted (sym (front_head s n t _ bit)))
 
 -- ---- what an answer says, whatever judged what it holds
 
@@ -222,7 +242,7 @@ module _ (g : Settings) (s : List ℕ) (h : OptionHead) (t : Found (protocol_ver
   string_passed e = record { some = t.some; within = t.within; type = t.type; fits = t.fits; reads = string_decides ∙ rw e; head = t.head }
 
 -- the place that it is refused at is one that a `usize` holds, as all its bytes are
-moved_in_option : (g : Settings) (s : List ℕ) (n : ℕ) (r : Refusal) → read_option g s ≡ refused (moved n r) → length s ≤ most → moved_capped n r ≡ moved n r
+pub moved_in_option : (g : Settings) (s : List ℕ) (n : ℕ) (r : Refusal) → read_option g s ≡ refused (moved n r) → length s ≤ most → moved_capped n r ≡ moved n r
 moved_in_option g s n r e few = let (p, there, low) = option_told g s (moved n r) e in uncapped n r p there (omega arith)
 
 -- ---- what `read_option` tells, by what it is told of the first half and of the string

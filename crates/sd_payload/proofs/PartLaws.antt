@@ -24,7 +24,7 @@ unfolding given
 handed_part answer s n e bytes = sym (ap (λ (a : Answer ℕ). part (given (λ n. bytes) a)) e)
 
 -- an accepted answer leaves the sizes to the bytes
-settled_parts : (answer : Result SdPayload Refusal) (s : List ℕ) (n : ℕ) → settled answer s ≡ accepted n → Parts s n
+pub settled_parts : (answer : Result SdPayload Refusal) (s : List ℕ) (n : ℕ) → settled answer s ≡ accepted n → Parts s n
 settled_parts (Ok p) s n e = sizes.parts s n e
 settled_parts (Err r) s n e = not_refused (said r) n e
 

@@ -97,10 +97,13 @@ unfolding ◌>>◌
 refused_before (accepted u) x b r e = not_refused r x (sym e)
 refused_before {A} (refused q) x b r e = ap refused (refused_inj {A = A} q r e)
 
+pub sizes_refuse : (g : Settings) (s : List ℕ) (r : paper.Refusal) → sized s ≡ refused r → read_payload g s ≡ refused r
+unfolding sized read_payload
+sizes_refuse g s r e = refused_before _ _ _ r e
+
 module _ (g : Settings) (s tab : List ℕ) (long : 347 ≤ length tab) where
   pub sizes_refused : {v : Result ℕ Refusal} (r : Refusal) → count_said v ≡ sized s → v ≡ Err r → PayloadRead (read_payload g s) tab (cleared tab) (Err r)
-  unfolding sized read_payload
-  sizes_refused r e this = read_refused _ tab long r tab (refused_before _ _ _ (said r) (sym e ∙ ap count_said this)) refl
+  sizes_refused r e this = read_refused _ tab long r tab (sizes_refuse g s (said r) (sym e ∙ ap count_said this)) refl
 
   module _ (n : ℕ) (t : Parts s n) where
     reads : read_payload g s

@@ -2,15 +2,16 @@
 use mathlib.Core.Path.{◌≡◌, sym, ap, ◌∙◌}
 use mathlib.Core.Bool.{not}
 use mathlib.Core.List.{List}
-use Prim.Native.Nat.{ℕ, ◌+◌, ◌*◌, ◌-◌, ◌%◌, ◌≤◌}
+use Prim.Native.Nat.{ℕ, ◌+◌, ◌*◌, ◌-◌, ◌%◌, ◌<◌, ◌≤◌}
 use native.Mathlib.Omega.{arith}
 use lib.Dec.{ltb, eqb}
 use lib.ListN.{length, take, drop, get_or, length-drop}
 use lib.Seq.{length-take-le}
+use borrow.Author.Tests.{lt-ltb, le-ltb, eq-eqb}
 use Rattle.numbers.specs.Refusals.{unexpected_end, entries_too_large, entries_uneven, options_too_large}
-use Rattle.numbers.specs.Answers.{accepted, pass, ◌>>◌, refuse◌when◌else◌}
+use Rattle.numbers.specs.Answers.{Verdict, accepted, refused, pass, ◌>>◌, refuse◌when◌else◌}
 use Rattle.numbers.specs.Bytes.{at16, at32}
-use Rattle.numbers.proofs.AnswerLaws.{then_accepted, accepted_inj}
+use Rattle.numbers.proofs.AnswerLaws.{when_hit, when_pass, then_accepted, accepted_inj}
 use Rattle.numbers.proofs.ByteLaws.{take_rest}
 use Rattle.sd_format.specs.Payload.{sizes, entries_length, options_length, entries_part, options_part}
 use Rattle.sd_format.proofs.PayloadLaws.{Sizes, sizes_said}
@@ -24,6 +25,21 @@ word s i = (get_or s i 0 * 256 + get_or s (i + 1) 0) * 65536 + (get_or s (i + 2)
 pub word_at : (s : List ℕ) (i : ℕ) → word s i ≡ at32 s i
 unfolding at32 at16
 word_at s i = let e : i + 2 + 1 ≡ i + 3 = omega arith in rw e
+
+-- fewer than 12 bytes
+pub sized_short : (s : List ℕ) → length s < 12 → sized s ≡ refused (unexpected_end 12)
+unfolding sized sizes ◌>>◌
+sized_short s h = ap (λ (v : Verdict). v >> accepted (entries_length s)) (when_hit _ _ _ (lt-ltb (length s) 12 h))
+
+-- the last three tests are left
+pub sizes_whole : (n el ol : ℕ) → 12 ≤ n → el ≤ 1388 → el % 16 ≡ 0 → 12 + el ≤ n → ol ≤ 1388 → sizes n el ol ≡ whole n el ol
+unfolding sizes whole
+sizes_whole n el ol twelve short even there few =
+    when_pass _ _ _ (le-ltb n 12 twelve)
+    ∙ when_pass _ _ _ (le-ltb 1388 el short)
+    ∙ when_pass _ _ _ (ap not (eq-eqb (el % 16) 0 even))
+    ∙ when_pass _ _ _ (le-ltb n (12 + el) there)
+    ∙ when_pass _ _ _ (le-ltb 1388 ol few)
 
 -- ---- once they pass: where the two parts stand in the caller's bytes
 

@@ -9,9 +9,13 @@ use native.Mathlib.Omega.{arith}
 use lib.ListN.{length, drop, get_or}
 use Rattle.numbers.specs.Refusals.{malformed_state}
 use Rattle.numbers.specs.Answers.{pass}
+use Rattle.numbers.specs.Answers as paper
 use Rattle.numbers.proofs.AnswerLaws.{when_hit, when_pass}
 use Rattle.numbers.proofs.TestLaws.{and_inv}
+use Rattle.refusal.specs.declared.Refusal.{Refusal}
 use Rattle.refusal.specs.declared.Refusal.TheVariants.{MalformedState}
+use Rattle.refusal.specs.declared.answers.Step.{Step}
+use Rattle.refusal.specs.Said.{verdict_said}
 use Rattle.tp_machine.specs.declared.TpRange.{TpRange}
 use Rattle.tp_machine.specs.Machine.{most, bad_range, Out, judged, taken, step, clear}
 use Rattle.tp_machine.specs.Taking.{complete, ready}
@@ -21,6 +25,7 @@ use Rattle.tp_rules.specs.Taking.{one_whole, one_ready}
 use Rattle.tp_rules.proofs.TakingLaws.{complete_one, ready_one}
 use Rattle.tp_stream.specs.declared.TpStream.{TpStream}
 use Rattle.tp_stream.specs.Stream.{view, stored}
+use Rattle.tp_stream.specs.Promises.{seen, Ran}
 use Rattle.tp_stream.proofs.StreamLaws.{cleared}
 use Rattle.tp_words.specs.Words.{size, range_at, ranges_in, end_of, unfit, held_in, stream_of, state_of, flat, words_of, put}
 use Rattle.tp_words.proofs.WordLaws.{in_length}
@@ -39,6 +44,36 @@ use Rattle.tp_lent.proofs.FrontLaws.{first_front}
 module _ (ws seg buf : List ℕ) where
   abbrev out : Out
   out = step (state_of ws) seg buf
+
+  -- by value: what was seen is what the machine left of the words' state
+  module _ (s : TpStream) (is : s ≡ stream_of ws) (r : Step (Unit {0}) TpStream) (buf' : List ℕ) (ran : Ran s seg buf r buf') (ws' : List ℕ) where
+    steps : seen r buf' ≡ out
+    steps = ran.steps ∙ ap (λ (t : TpStream). step (view t) seg buf) is
+
+    joins : ws' ≡ kept ws out.answer out.state → Joins ws seg buf r.answer ws' buf'
+    joins w = record { answers = ap (λ (o : Out). o.answer) steps; words = w; buffer = ap (λ (o : Out). o.buffer) steps }
+
+    pub joined_by_value : r.answer ≡ Ok tt → ws' ≡ put ws r.after → Joins ws seg buf r.answer ws' buf'
+    joined_by_value e w =
+        joins (
+        w
+        ∙ ap (put ws) (ran.places ∙ ap (λ (t : TpStream). stored t (view r.after)) is)
+        ∙ ap₂ {C = List ℕ} (kept ws) (ap verdict_said (sym e) ∙ ap (λ (o : Out). o.answer) steps) (ap (λ (o : Out). o.state) steps)
+        )
+
+    pub refused_by_value : (q : Refusal) → r.answer ≡ Err q → ws' ≡ ws → Joins ws seg buf r.answer ws' buf'
+    refused_by_value q e w = joins (w ∙ ap (λ (v : paper.Verdict). kept ws v out.state) (ap verdict_said (sym e) ∙ ap (λ (o : Out). o.answer) steps))
+
+  -- in place: the machine accepts it
+  pub joined_in_all : (plan : Plan) → Planned ws seg (length buf) plan → (ws' buf' : List ℕ) → CarriedOut ws seg buf ws' buf' → Joins ws seg buf (Ok tt) ws' buf'
+  joined_in_all plan is ws' buf' done =
+      let every = every_step (state_of ws) seg buf in
+      let passes : out.answer ≡ pass = every.answer ∙ accepts ws seg buf plan is in
+      record {
+        answers = sym passes;
+        words = done.words ∙ sym (ap₂ {C = List ℕ} (kept ws) passes (every.accepts passes).0);
+        buffer = done.buffer ∙ sym (every.accepts passes).1;
+      }
 
   -- in place, in the first words: the machine accepts it
   pub joined_in_place : (f : List ℕ) → IsFirstChunk ws f size → (plan : Plan) → Planned f seg (length buf) plan → (f' buf' : List ℕ) → CarriedOut f seg buf f' buf' → Joins ws seg buf (Ok tt) (f' ++ drop size ws) buf'
@@ -91,6 +126,24 @@ module _ (ws : List ℕ) where
         words = w ∙ sym (ap (λ (b : Bool). cond b ws (put ws (stored (stream_of ws) (clear (state_of ws))))) e);
       }
 
+  -- in place
+  pub cleared_in_all : unfit ws ≡ false → (ws' : List ℕ) → ws' ≡ get_or ws 0 0 ∷ 0 ∷ 0 ∷ 0 ∷ 0 ∷ drop 5 ws → Cleared ws (Ok tt) ws'
+  unfolding words_of held_in
+  cleared_in_all e ws' w =
+      let room : size ≤ length ws = fit ws e in
+      let s : TpStream = record { limit = get_or ws 0 0; ranges = ranges_in ws most; count = 0; end = None; accepted = 0 } in
+      let behind : drop 5 ws ≡ flat (ranges_in ws most) ++ drop size ws = ap (drop 5) (spread_self ws room) ∙ spread_behind ws room (ranges_in ws most) in
+      record {
+        answers = sym (when_pass malformed_state (unfit ws) pass e);
+        words =
+            w
+            ∙ ap (λ (l : List ℕ). get_or ws 0 0 ∷ 0 ∷ 0 ∷ 0 ∷ 0 ∷ l) behind
+            ∙ put_all ws s room (omega arith)
+            ∙ ap (put ws) (cleared (held_in ws) ∙ ap (λ (t : TpStream). stored t (clear (view t))) (told ws e))
+            ∙ sym (ap (λ (b : Bool). cond b ws (put ws (stored (stream_of ws) (clear (state_of ws))))) e);
+      }
+
+  -- in place, in the first words
   pub cleared_in_place : (f : List ℕ) → IsFirstChunk ws f size → unfit f ≡ false → (f' : List ℕ) → f' ≡ get_or f 0 0 ∷ 0 ∷ 0 ∷ 0 ∷ 0 ∷ drop 5 f → Cleared ws (Ok tt) (f' ++ drop size ws)
   unfolding words_of held_in
   cleared_in_place f first e f' w =

@@ -72,6 +72,10 @@ module _ (ws : List ℕ) (enough : size ≤ length ws) where
   pub spread_behind : (rs : List TpRange) → drop 5 (spread ws rs) ≡ flat rs ++ drop size ws
   spread_behind rs = drop_at (take 5 ws) (flat rs ++ drop size ws) 5 (length-take-le 5 ws (omega arith))
 
+  pub spread_length : (rs : List TpRange) → length rs ≡ most → length (spread ws rs) ≡ length ws
+  spread_length rs h =
+      omega (arith, length-append (take 5 ws) (flat rs ++ drop size ws), length-append (flat rs) (drop size ws), flat_length rs, length-drop size ws, length-take-le 5 ws (omega arith))
+
   -- ---- in front of place i, and from it on
   abbrev front : ℕ → List ℕ
   front i = take 5 ws ++ flat (take i array)

@@ -65,7 +65,7 @@ module _ (ws seg buf : List ℕ) (plan : Plan) (is : Planned ws seg (length buf)
   abbrev new : TpRange
   new = range_of (get_or ws 4 0 + 1) seg
 
-  room : size ≤ length ws
+  pub room : size ≤ length ws
   room = enough ws is.ready
 
   many : length (held ws) ≡ count
@@ -80,10 +80,10 @@ module _ (ws seg buf : List ℕ) (plan : Plan) (is : Planned ws seg (length buf)
   order : InOrder (held ws)
   order = rising_order p 0 (held ws) is.found.order
 
-  before_behind : plan.found.before ≤ plan.found.behind
+  pub before_behind : plan.found.before ≤ plan.found.behind
   before_behind = omega (arith, is.found.before, is.found.behind, counted_less new (held ws) forth each order)
 
-  behind_count : plan.found.behind ≤ count
+  pub behind_count : plan.found.behind ≤ count
   behind_count = omega (arith, is.found.behind, counted_most new (held ws) forth each order, many)
 
   -- what follows of places and counts
@@ -126,7 +126,7 @@ module _ (ws seg buf : List ℕ) (plan : Plan) (is : Planned ws seg (length buf)
       ∙ (λ i. joined (range_of (sym (count_is ws is.ready) i + 1) seg) (sym (ranges_are ws is.ready) i))
 
   module _ (g : TpRange) (grown : g ≡ spanned ws plan.found.before plan.found.behind plan.new) where
-    joined_length : length (joined_so g) ≡ plan.found.before + 1 + (count - plan.found.behind)
+    pub joined_length : length (joined_so g) ≡ plan.found.before + 1 + (count - plan.found.behind)
     joined_length = all_length ws room count plan.found.before plan.found.behind g before_behind behind_count (few ws is.ready) is.room_left
 
     pub carried : (e : (Option ℕ)) → e ≡ cond plan.more (end_of (get_or ws 2 0) (get_or ws 3 0)) (Some plan.new.end) → (mid ws' : List ℕ) → mid ≡ spread ws (placed array (joined_so g))

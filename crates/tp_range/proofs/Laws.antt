@@ -7,9 +7,9 @@ use mathlib.Core.List.{List, [], ◌∷◌, ◌++◌, append-nil, append_assoc}
 use native.Mathlib.Numerals.{add-one, one-add}
 use native.Mathlib.Omega.{arith}
 use borrow.Author.Tests.{lt-ltb, le-ltb}
-use lib.ListN.{length, take, drop, get_or, set, length-append, length-take, length-drop, drop_of_length-le}
+use lib.ListN.{length, take, drop, get_or, set, length-append, length-take, length-drop, drop_of_length-le, take-append-drop}
 use lib.Dec.{ltb}
-use lib.Seq.{take-suc, drop-cons, slice-cons, take_all, take-take, drop-drop, length-take-le, take-append_seam, drop-append-add, append_snoc, set-append_seam, set_at}
+use lib.Seq.{take-suc, drop-cons, slice_empty, slice-cons, take_all, take-take, drop-drop, length-take-le, take-append_seam, drop-append-add, append_snoc, set-append_seam, set_at}
 use Rattle.std.specs.List.{position_or_len, copy_within}
 use Rattle.std.proofs.lemmas.List.{drop-take}
 use Rattle.std.proofs.lemmas.List.Sums.{prefix_len-le-length}
@@ -101,6 +101,10 @@ inserted_length g rs = sym (length_moved (inserted_moved g rs)) ∙ sym (add-one
 abbrev pub moved : (array : List TpRange) (count i : ℕ) → List TpRange
 moved array count i = take (i + 1) array ++ (drop i (take count array) ++ drop (count + 1) array)
 
+-- none of them moved yet
+pub moved_none : (array : List TpRange) (count : ℕ) → array ≡ moved array count count
+moved_none array count = sym (take-append-drop (count + 1) array) ∙ ap (λ (l : List TpRange). take (count + 1) array ++ (l ++ drop (count + 1) array)) (sym (slice_empty count array))
+
 module _ (array : List TpRange) (count : ℕ) (few : count < length array) where
   pub copied : (i : ℕ) → i ≤ count → copy_within array i count (i + 1) ≡ moved array count i
   copied i h =
@@ -116,6 +120,12 @@ module _ (array : List TpRange) (count : ℕ) (few : count < length array) where
       ap (λ (l : List TpRange). set (l ++ rest) i a) (ap (λ (k : ℕ). take k array) (add-one i) ∙ take-suc array i none h)
       ∙ ap (λ (l : List TpRange). set l i a) (append_snoc (take i array) (get_or array i none) rest)
       ∙ set_at (take i array) (get_or array i none) rest a i (length-take-le i array (omega arith))
+
+  -- one more moved
+  pub moved_one : (i : ℕ) → i < count → set (moved array count (i + 1)) (i + 1) (get_or array i none) ≡ moved array count i
+  moved_one i h =
+      stored (i + 1) (get_or array i none) (drop (i + 1) (take count array) ++ drop (count + 1) array) (omega arith)
+      ∙ ap (λ (l : List TpRange). take (i + 1) array ++ (l ++ drop (count + 1) array)) (sym (front array i count none h (omega arith)))
 
   -- and a range in its place
   pub moved_in : (g : TpRange) (i : ℕ) → i ≡ place g.start (take count array) → set (moved array count i) i g ≡ placed array (inserted g (take count array))

@@ -1,17 +1,21 @@
 -- Laws of a stream's record: the state that it holds, and a record with a state put into it. Assumes nothing.
-use Rattle.std.specs.Prelude.{Ok, Err, None}
+use Rattle.std.specs.Prelude.{Result, Ok, Err, None}
 use Prim.Native.Nat.{ℕ, ◌-◌, ◌≤◌, ◌<◌}
 use mathlib.Core.Path.{◌≡◌, refl, sym, ap, ◌∙◌}
-use mathlib.Core.Bool.{Bool, true, false}
+use mathlib.Core.Bool.{Bool, true, false, cond}
 use mathlib.Core.List.{List, [], ◌++◌, append-nil, append_assoc, map}
 use native.Mathlib.Omega.{arith}
 use borrow.Author.Tests.{leb-true, leb-false, lt-ltb, le-ltb}
-use lib.Dec.{leb}
+use lib.Dec.{leb, ltb}
 use lib.ListN.{length, take, drop, replicate, length-append, length-take, length-replicate, length-map, take-append-drop}
 use lib.Seq.{take-length, take_all, take-append_seam}
 use Rattle.tp_machine.specs.declared.TpRange.{TpRange}
-use Rattle.numbers.proofs.AnswerLaws.{when_hit, when_pass}
+use Rattle.numbers.specs.Refusals.{limit_too_large}
+use Rattle.numbers.specs.Answers.{refused, pass, refuse◌when◌else◌}
+use Rattle.numbers.proofs.AnswerLaws.{when_hit, when_pass, not_refused}
+use Rattle.refusal.specs.declared.Refusal.{Refusal}
 use Rattle.refusal.specs.declared.Refusal.TheVariants.{LimitTooLarge}
+use Rattle.refusal.specs.Said.{said, verdict_said}
 use Rattle.tp_machine.specs.Machine.{most, highest, State, fresh, begun, begin, clear}
 use Rattle.tp_range.specs.Joining.{none, placed}
 use Rattle.tp_range.proofs.Laws.{over, over_length, placed_over}
@@ -83,7 +87,34 @@ pub fresh_stored : (limit : ℕ) → record { limit = limit; ranges = replicate 
 unfolding blank clear
 fresh_stored limit = cleared (record { limit = limit; ranges = replicate most none; count = 0; end = None; accepted = 0 })
 
--- the limit that is granted
+-- the answer to the limit that is asked for
+module _ (limit : ℕ) where
+  pub begun_not : highest < limit → refused (limit_too_large limit) ≡ begun limit
+  unfolding begun
+  begun_not h = rw (lt-ltb highest limit h, when_hit)
+
+  pub begun_well : limit ≤ highest → pass ≡ begun limit
+  unfolding begun
+  begun_well h = rw (le-ltb highest limit h, when_pass)
+
+  -- the limit that is granted, by what was answered
+  pub refused_begins : (a : Result (Unit {0}) Refusal) (r : Refusal) (s : TpStream) → a ≡ Err r → verdict_said a ≡ begun limit → s ≡ stored blank (fresh 0) → Began limit (record { answer = a; after = s })
+  unfolding begun begin refuse◌when◌else◌
+  refused_begins a r s is q e = record { answers = q; begins = go (ltb highest limit) (ap verdict_said (sym is) ∙ q) }
+    where
+      go : (b : Bool) → refused (said r) ≡ (refuse limit_too_large limit when b else pass) → s ≡ stored blank (fresh (cond b 0 limit))
+      go true w = e
+      go false w = not_refused (said r) tt w
+
+  pub passed_begins : (a : Result (Unit {0}) Refusal) (s : TpStream) → a ≡ Ok tt → verdict_said a ≡ begun limit → s ≡ stored blank (fresh limit) → Began limit (record { answer = a; after = s })
+  unfolding begun begin refuse◌when◌else◌
+  passed_begins a s is q e = record { answers = q; begins = go (ltb highest limit) (ap verdict_said (sym is) ∙ q) }
+    where
+      go : (b : Bool) → pass ≡ (refuse limit_too_large limit when b else pass) → s ≡ stored blank (fresh (cond b 0 limit))
+      go true w = not_refused (limit_too_large limit) tt (sym w)
+      go false w = e
+
+-- the limit that is granted, by the test of it
 module _ (limit : ℕ) (s : TpStream) where
   pub began_not : highest < limit → s ≡ stored blank (fresh 0) → Began limit (record { answer = Err (LimitTooLarge limit); after = s })
   unfolding begun begin

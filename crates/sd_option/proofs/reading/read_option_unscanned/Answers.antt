@@ -2,15 +2,15 @@
 -- Assumes nothing.
 use Rattle.std.proofs.Common.{rules}
 use Rattle.sd_option.specs.Settings.{settings_said}
-use Rattle.sd_option.proofs.ReadingLaws.{frame_refused, length_refused, protocol_refused, head_told}
+use Rattle.sd_option.proofs.ReadingLaws.{frame_first, length_first, protocol_refused, head_told}
 use Rattle.sd_option.proofs.reading.read_option_unscanned.Goals as goal
 
 pub returns-in_err-length : goal.returns-in_err-length
-returns-in_err-length c = let h = frame_refused (settings_said c.args.settings) c.args.s.now c.in_err-length.ensures.said in search rules
+returns-in_err-length c = let h = frame_first (settings_said c.args.settings) c.args.s.now c.in_err-length.ensures.said in search rules
 
 pub returns-in_err-judged_length : goal.returns-in_err-judged_length
 returns-in_err-judged_length c =
-    let h = length_refused (settings_said c.args.settings) c.args.s.now c.in_ok-length.ensures.said c.row_of-row.ensures c.in_err-judged_length.ensures in
+    let h = length_first (settings_said c.args.settings) c.args.s.now c.in_ok-length.ensures.said c.row_of-row.ensures c.in_err-judged_length.ensures in
     search rules
 
 pub returns-in_err-judged_protocol : goal.returns-in_err-judged_protocol
