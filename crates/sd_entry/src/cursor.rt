@@ -32,9 +32,9 @@ impl EntryCursor {
         read_entry(&s[self.at..])
     }
 
-    // The entry at the cursor and the cursor behind it; where it is refused, the cursor where it was. (The other cursors have this match too; one function
-    // for all would need a closure for the step, and be no plainer. Only the cursor is chosen by it: an answer that is taken apart and put together
-    // again is copied, which costs a third of the call.)
+    // The entry at the cursor and the cursor behind it; where it is refused, the cursor where it was. (One function for all cursors would need a closure
+    // for the step, and be no plainer. The match chooses the cursor alone: an answer as large as an entry that is taken apart and put together again is
+    // copied, which costs a third of the call; those of the other cursors are small.)
     #[tactic(auto, using(crate::proofs::Laws::entry_fits))]
     pub fn next(self, s: &[u8]) -> Step<SdEntry, EntryCursor>
         ensures { Stepped s.now self.at result }

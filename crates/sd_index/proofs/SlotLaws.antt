@@ -35,13 +35,6 @@ cleared_long {tab} {first} {here} chunk filled =
     rw (le-ltb (length tab) 347 chunk.enough)
     (ap (λ (l : List ℕ). l ++ drop 347 tab) (filled_zeros first here filled (ap length chunk.same ∙ length-take-le 347 tab chunk.enough)))
 
--- all slots are zeros then, of a table that is no more than they
-pub cleared_whole : (old here : List ℕ) → here ≡ cleared old → length old ≡ 347 → here ≡ replicate 347 0
-unfolding cleared slots zeros
-cleared_whole old here is long =
-    is
-    ∙ rw (le-ltb (length old) 347 (omega arith), drop_of_length-le old {i = 347} (omega arith))
-
 -- ---- what a cleared table holds
 
 zeros_both : (n m : ℕ) → zeros n ++ zeros m ≡ zeros (n + m)
@@ -51,6 +44,11 @@ zeros_both n m = replicate-append-replicate {A = ℕ} n m 0
 cleared_is : (tab : List ℕ) → 347 ≤ length tab → cleared tab ≡ zeros 347 ++ drop 347 tab
 unfolding cleared slots
 cleared_is tab h = rw (le-ltb (length tab) 347 h)
+
+-- of a table that is no more than the slots all are zeros
+pub cleared_whole : (old here : List ℕ) → here ≡ cleared old → length old ≡ 347 → here ≡ replicate 347 0
+unfolding zeros
+cleared_whole old here is long = is ∙ cleared_is old (omega arith) ∙ rw (drop_of_length-le old {i = 347} (omega arith))
 
 pub past_cleared : (tab : List ℕ) → 347 ≤ length tab → drop slots (cleared tab) ≡ drop slots tab
 unfolding slots

@@ -64,32 +64,31 @@ module _ (ws seg buf : List ℕ) where
     pub refused_by_value : (q : Refusal) → r.answer ≡ Err q → ws' ≡ ws → Joins ws seg buf r.answer ws' buf'
     refused_by_value q e w = joins (w ∙ ap (λ (v : paper.Verdict). kept ws v out.state) (ap verdict_said (sym e) ∙ ap (λ (o : Out). o.answer) steps))
 
-  -- in place: the machine accepts it
-  pub joined_in_all : (plan : Plan) → Planned ws seg (length buf) plan → (ws' buf' : List ℕ) → CarriedOut ws seg buf ws' buf' → Joins ws seg buf (Ok tt) ws' buf'
-  joined_in_all plan is ws' buf' done =
+  -- in place: the machine accepts it, and that is what was done
+  carried : judged (state_of ws) seg (length buf) ≡ pass → (ws' buf' : List ℕ) → CarriedOut ws seg buf ws' buf' → Joins ws seg buf (Ok tt) ws' buf'
+  carried accepts ws' buf' done =
       let every = every_step (state_of ws) seg buf in
-      let passes : out.answer ≡ pass = every.answer ∙ accepts ws seg buf plan is in
+      let passes : out.answer ≡ pass = every.answer ∙ accepts in
       record {
         answers = sym passes;
         words = done.words ∙ sym (ap₂ {C = List ℕ} (kept ws) passes (every.accepts passes).0);
         buffer = done.buffer ∙ sym (every.accepts passes).1;
       }
 
-  -- in place, in the first words: the machine accepts it
+  pub joined_in_all : (plan : Plan) → Planned ws seg (length buf) plan → (ws' buf' : List ℕ) → CarriedOut ws seg buf ws' buf' → Joins ws seg buf (Ok tt) ws' buf'
+  joined_in_all plan is = carried (accepts ws seg buf plan is)
+
+  -- in the first words
   pub joined_in_place : (f : List ℕ) → IsFirstChunk ws f size → (plan : Plan) → Planned f seg (length buf) plan → (f' buf' : List ℕ) → CarriedOut f seg buf f' buf' → Joins ws seg buf (Ok tt) (f' ++ drop size ws) buf'
   joined_in_place f first plan is f' buf' done =
-      let every = every_step (state_of ws) seg buf in
       let same : stream_of f ≡ stream_of ws = first_stream ws f first in
-      let passes : out.answer ≡ pass = every.answer ∙ ap (λ (s : TpStream). judged (view s) seg (length buf)) (sym same) ∙ accepts f seg buf plan is in
-      record {
-        answers = sym passes;
+      carried (ap (λ (s : TpStream). judged (view s) seg (length buf)) (sym same) ∙ accepts f seg buf plan is) (f' ++ drop size ws) buf' (record {
         words =
             ap (λ (l : List ℕ). l ++ drop size ws) done.words
             ∙ first_put ws f first (stored (stream_of f) (taken (state_of f) seg))
-            ∙ ap (λ (s : TpStream). put ws (stored s (taken (view s) seg))) same
-            ∙ sym (ap₂ {C = List ℕ} (kept ws) passes (every.accepts passes).0);
-        buffer = done.buffer ∙ sym (every.accepts passes).1;
-      }
+            ∙ ap (λ (s : TpStream). put ws (stored s (taken (view s) seg))) same;
+        buffer = done.buffer;
+      })
 
 -- ---- words in order
 module _ (ws : List ℕ) (is : in_order ws ≡ true) where
@@ -143,20 +142,10 @@ module _ (ws : List ℕ) where
             ∙ sym (ap (λ (b : Bool). cond b ws (put ws (stored (stream_of ws) (clear (state_of ws))))) e);
       }
 
-  -- in place, in the first words
+  -- in the first words
   pub cleared_in_place : (f : List ℕ) → IsFirstChunk ws f size → unfit f ≡ false → (f' : List ℕ) → f' ≡ get_or f 0 0 ∷ 0 ∷ 0 ∷ 0 ∷ 0 ∷ drop 5 f → Cleared ws (Ok tt) (f' ++ drop size ws)
-  unfolding words_of held_in
   cleared_in_place f first e f' w =
-      let fits : unfit ws ≡ false = sym (first_unfit ws f first) ∙ e in
-      let room : size ≤ length ws = fit ws fits in
-      let s : TpStream = record { limit = get_or ws 0 0; ranges = ranges_in ws most; count = 0; end = None; accepted = 0 } in
-      let behind : drop 5 ws ≡ flat (ranges_in ws most) ++ drop size ws = ap (drop 5) (spread_self ws room) ∙ spread_behind ws room (ranges_in ws most) in
-      record {
-        answers = sym (when_pass malformed_state (unfit ws) pass fits);
-        words =
-            ap (λ (l : List ℕ). l ++ drop size ws) w
-            ∙ ap₂ {C = List ℕ} (λ (x : ℕ) (l : List ℕ). x ∷ 0 ∷ 0 ∷ 0 ∷ 0 ∷ l) (first_word ws f first 0 (omega arith)) (first_front ws f first ∙ behind)
-            ∙ put_all ws s room (omega arith)
-            ∙ ap (put ws) (cleared (held_in ws) ∙ ap (λ (t : TpStream). stored t (clear (view t))) (told ws fits))
-            ∙ sym (ap (λ (b : Bool). cond b ws (put ws (stored (stream_of ws) (clear (state_of ws))))) fits);
-      }
+      cleared_in_all (sym (first_unfit ws f first) ∙ e) (f' ++ drop size ws) (
+      ap (λ (l : List ℕ). l ++ drop size ws) w
+      ∙ ap₂ {C = List ℕ} (λ (x : ℕ) (l : List ℕ). x ∷ 0 ∷ 0 ∷ 0 ∷ 0 ∷ l) (first_word ws f first 0 (omega arith)) (first_front ws f first)
+      )
