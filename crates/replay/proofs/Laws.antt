@@ -1,11 +1,13 @@
 -- A record's numbers as bytes, the first record that does not agree, and when two answers are alike. Assumes nothing.
-use mathlib.Core.Path.{◌≡◌, refl, sym, ap, ◌∙◌}
+use mathlib.Core.Path.{◌≡◌, refl, sym, ap, subst, ◌∙◌}
 use mathlib.Core.Bool.{Bool, true, false, not, ◌&&◌, false≢true}
 use mathlib.Core.List.{List, [], ◌∷◌, ◌++◌}
-use Prim.Native.Nat.{ℕ, ◌+◌, ◌*◌, ◌/◌, ◌%◌, ◌^◌, ◌<◌}
+use Prim.Native.Nat.{ℕ, zero, suc, ◌+◌, ◌*◌, ◌/◌, ◌%◌, ◌^◌, ◌<◌}
+use native.Mathlib.Nat.{le_refl}
 use native.Mathlib.Omega.{arith}
 use lib.Dec.{eqb}
 use lib.ListN.{length, take, drop, get_or, length-append}
+use lib.Seq.{take-take}
 use Rattle.std.specs.List.{FoldsTo}
 use Rattle.std.proofs.lemmas.Fn.{FoldsTo-push}
 use borrow.Author.Tests.{eqb-true, eq-eqb}
@@ -15,7 +17,7 @@ use Rattle.std.specs.Option.{option_or}
 use Rattle.std.specs.Int.{to_be_bytes, w32}
 use Rattle.std.specs.Cmp.Lexicographic.{pointwise}
 use Rattle.std.proofs.lemmas.Bool.Decides.{Decides-eqb}
-use Rattle.std.proofs.lemmas.Slice.Eq.{slice_eq-Decides}
+use Rattle.std.proofs.lemmas.Slice.Eq.{slice_eq-Decides, starts_is}
 use Rattle.numbers.specs.Bytes.{be16, be32, at16, at32}
 use Rattle.replay.specs.Counts.{first_false}
 use Rattle.replay.specs.Records.{AlikeExactly}
@@ -34,6 +36,21 @@ number_bytes n small =
     let c : n / 256 ^ 1 % 256 ≡ n % 65536 / 256 = omega arith in
     let d : n % 256 ≡ n % 65536 % 256 = omega arith in
     λ i. a i ∷ b i ∷ c i ∷ d i ∷ []
+
+-- what begins with a name, and what stands behind it
+pub begins : (name s : List ℕ) (n : ℕ) → length name ≡ n → pointwise eqb name (take (length name) s) ≡ true → s ≡ name ++ drop n s
+begins name s n long e = (starts_is Decides-eqb s name _ refl).0 e ∙ ap (λ (k : ℕ). name ++ drop k s) long
+
+-- the front of such bytes, put together again from the name and what stands behind it there
+came_again : (came : ℕ) (name rest : List ℕ) → take came (name ++ drop (length name) (take came (name ++ rest))) ≡ take came (name ++ rest)
+came_again came [] rest = take-take came came rest (le_refl came)
+came_again zero (x ∷ xs) rest = refl
+came_again (suc n) (x ∷ xs) rest = ap (λ (l : List ℕ). x ∷ l) (came_again n xs rest)
+
+pub begins_came : (came : ℕ) (name s : List ℕ) (n : ℕ) → length name ≡ n → s ≡ name ++ drop n s → take came (name ++ drop n (take came s)) ≡ take came s
+begins_came came name s n long whole =
+    subst (λ (l : List ℕ). take came (name ++ drop n (take came l)) ≡ take came l) (sym whole)
+    (subst (λ (k : ℕ). take came (name ++ drop k (take came (name ++ drop n s))) ≡ take came (name ++ drop n s)) long (came_again came name (drop n s)))
 
 -- bytes that do not differ from a name are that name
 pub named : (s name : List ℕ) → not (pointwise eqb s name) ≡ false → s ≡ name

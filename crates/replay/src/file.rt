@@ -77,9 +77,24 @@ pub fn next_record(from: &mut impl Read, buf: &mut [u8]) -> usize
     if fill(from, record) < n { 0 } else { n }
 }
 
-// How many records the file has, which begins with this name and that number, in eight bytes each; none where another name stands there, and then no
-// byte behind it is asked for. Of a number that is cut short the bytes that are not there count as 0.
+// How many records the file has, which begins with this name and that number, in eight bytes each; none where another name stands there. Both are asked
+// for at once, and bytes that do not come count as 0, those of the name too: a file that ends inside its name is not told from one with zeros there.
+// `records_behind` tells them apart, and asks for no more than the name before it says that another stands there.
 pub fn records<R: Read>(from: &mut R, name: [u8; 8]) -> Option<u32>
+    ensures begins { IfSome result (λ n. (came : ℕ) × (rest : List ℕ) × Consumes (R.remaining from.old) (R.remaining from.new) (take came (name ++ rest)) × (n ≡ at32 rest 0)) }
+    ensures told { IfSome result (λ n. (came : List ℕ) × Consumes (R.remaining from.old) (R.remaining from.new) came × (n ≡ at32 came 8)) }
+{
+    let mut head = [0u8; 16];
+    let came = fill(from, &mut head);
+    if !head.starts_with(&name) {
+        return None;
+    }
+    Some(number(&head[..came], 8))
+}
+
+// The same, and none where less than the whole name is there; where there is none, no byte behind the name is asked for. Of a number that is cut short the
+// bytes that are not there count as 0.
+pub fn records_behind<R: Read>(from: &mut R, name: [u8; 8]) -> Option<u32>
     ensures { IfSome result (λ n. (told : List ℕ) × Consumes (R.remaining from.old) (R.remaining from.new) (name ++ told) × (n ≡ at32 told 0)) }
 {
     let mut begins = [0u8; 8];

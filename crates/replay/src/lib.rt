@@ -6,8 +6,10 @@ mod counts;
 mod file;
 mod record;
 mod sum;
+#[cfg(test)]
+mod tests;
 
 pub use counts::count;
-pub use file::{Judge, next_record, open_first, records, replay_all};
+pub use file::{Judge, next_record, open_first, records, records_behind, replay_all};
 pub use record::{argument, byte, check, input, number, recorded, same};
 pub use sum::{add_byte, add_bytes, add_number};

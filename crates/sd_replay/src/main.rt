@@ -3,7 +3,7 @@
 #![tactic(auto)]
 
 use print::out;
-use replay::{Judge, open_first, records, replay_all};
+use replay::{Judge, open_first, records_behind, replay_all};
 use std::io::Read;
 
 mod answer; // answer.rt: answers as numbers, and in a sum
@@ -32,7 +32,7 @@ impl Judge for Replay {
 // Replays a file that is open, and prints what came of it. (`tp_replay` makes the same few calls, with other things lent to a record; one function for
 // both would be no plainer.)
 fn report(rt: &impl Print, from: &mut impl Read) {
-    let Some(total) = records(from, *b"VIADSD01") else {
+    let Some(total) = records_behind(from, *b"VIADSD01") else {
         out(rt, "not a list of recorded payloads\n");
         return;
     };

@@ -4,7 +4,7 @@
 #![tactic(auto)]
 
 use print::out;
-use replay::{Judge, open_first, records, replay_all};
+use replay::{Judge, open_first, records_behind, replay_all};
 use std::io::Read;
 use tp_words::WORDS;
 
@@ -32,7 +32,7 @@ impl Judge for Replay {
 
 // Replays a file that is open, and prints what came of it: as in `sd_replay`.
 fn report(rt: &impl Print, from: &mut impl Read) {
-    let Some(total) = records(from, *b"VIADTP01") else {
+    let Some(total) = records_behind(from, *b"VIADTP01") else {
         out(rt, "not a list of recorded segments\n");
         return;
     };
